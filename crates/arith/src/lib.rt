@@ -1,0 +1,5 @@
+// Arithmetic on machine numbers, each function equal to its definition: the nearest quotient, the nearest quotient of a product
+// that passes 64 bits, and the integer root.
+pub mod nearest;
+pub mod product;
+pub mod root;

@@ -1,0 +1,24 @@
+// The nearest quotient, halves up.
+ghost use mathlib.Core.Path.{_≡_};
+ghost use Prim.Native.Nat.{_+_, _*_, _^_, _<_};
+ghost use Rattle.laws.specs.Nearest.{nearest};
+
+// The whole number nearest to (quotient · divisor + rest) / divisor.
+pub fn round_rest(quotient: u64, rest: u64, divisor: u64) -> u64
+    requires { ⌜ (rest < divisor) × (quotient < 2 ^ 63) ⌝ }
+    ensures { λ r. ⌜ r ≡ nearest (quotient * divisor + rest) divisor ⌝ }
+{
+    if divisor - rest <= rest {
+        quotient + 1
+    } else {
+        quotient
+    }
+}
+
+// The whole number nearest to dividend / divisor.
+pub fn nearest_quotient(dividend: u64, divisor: u64) -> u64
+    requires { ⌜ (0 < divisor) × (dividend < 2 ^ 63) ⌝ }
+    ensures { λ r. ⌜ r ≡ nearest dividend divisor ⌝ }
+{
+    round_rest(dividend / divisor, dividend % divisor, divisor)
+}

@@ -1,0 +1,56 @@
+-- Lists that are filled from the front: `rowsOf f n` is f 0, f 1, .., f (n - 1), and `Filled` says that a list holds the
+-- first i of them and is, from there on, as it was. Assumes nothing.
+use Prim.Native.Nat.{ℕ, zero, suc, _+_, _≤_, _<_}
+use mathlib.Core.Path.{_≡_, refl, sym, _∙_, ap, ap₂}
+use mathlib.Core.List.{List, [], _∷_, _++_}
+use native.Mathlib.Numerals.{add-one}
+use native.Mathlib.Omega.{arith}
+use lib.ListN.{length, getD, take, drop, set, length-append, length-set, take-append-drop, List·getD-append}
+use lib.Seq.{take-suc-set, drop-set-lt, drop-drop, getD-at}
+use Rattle.laws.specs.Order.{by-order}
+
+unfoldable pub rowsOf : (ℕ → ℕ) → ℕ → List ℕ
+rowsOf f zero = []
+rowsOf f (suc n) = rowsOf f n ++ (f n ∷ [])
+
+pub length-rowsOf : (f : ℕ → ℕ) (n : ℕ) → length (rowsOf f n) ≡ n
+unfolding rowsOf
+length-rowsOf f zero = refl
+length-rowsOf f (suc n) = length-append (rowsOf f n) (f n ∷ []) ∙ ap (λ (k : ℕ). k + 1) (length-rowsOf f n) ∙ add-one n
+
+pub getD-rowsOf : (f : ℕ → ℕ) (n i : ℕ) → i < n → getD (rowsOf f n) i 0 ≡ f i
+unfolding rowsOf
+getD-rowsOf f zero i h = absurd (omega arith)
+getD-rowsOf f (suc n) i h =
+    let size = length-rowsOf f n in
+    by-order n i
+    (λ l. getD-at (rowsOf f n) (f n) [] 0 i (size ∙ same l) ∙ ap f (same l))
+    (λ l. List·getD-append (rowsOf f n) (f n ∷ []) 0 i (omega arith) ∙ getD-rowsOf f n i l)
+  where
+    same : n ≤ i → n ≡ i
+    same l = omega arith
+
+-- after i steps of a fill that began with the list `start`
+pub record Filled (start : List ℕ) (f : ℕ → ℕ) (i : ℕ) (out : List ℕ) : Type 0 where
+  pub front : take i out ≡ rowsOf f i
+  pub rest : drop i out ≡ drop i start
+  pub size : length out ≡ length start
+
+pub filled-none : (start : List ℕ) (f : ℕ → ℕ) → Filled start f 0 start
+unfolding rowsOf
+filled-none start f = record { front = refl; rest = refl; size = refl }
+
+pub filled-more : {start out : List ℕ} {f : ℕ → ℕ} {i : ℕ} → i < length start → Filled start f i out → Filled start f (i + 1) (set out i (f i))
+unfolding rowsOf
+filled-more {start} {out} {f} {i} h was = record {
+  front = rw add-one (take-suc-set out i (f i) (omega arith) ∙ ap (λ (l : List ℕ). l ++ (f i ∷ [])) (was .front));
+  rest =
+      drop-set-lt (i + 1) out i (f i) (omega arith)
+      ∙ sym (drop-drop 1 i out)
+      ∙ ap (drop 1) (was .rest)
+      ∙ drop-drop 1 i start;
+  size = length-set out i (f i) ∙ was .size;
+}
+
+pub filled-all : {start out : List ℕ} {f : ℕ → ℕ} {n : ℕ} → Filled start f n out → out ≡ rowsOf f n ++ drop n start
+filled-all {start} {out} {f} {n} was = sym (take-append-drop n out) ∙ ap₂ _++_ (was .front) (was .rest)

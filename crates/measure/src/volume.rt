@@ -1,0 +1,19 @@
+// A volume, in v.
+ghost use mathlib.Core.Path.{_≡_};
+ghost use Rattle.measure.specs.Quantity.{volume, volumeUnits};
+
+pub struct Volume(u32);
+
+impl Volume {
+    pub fn of(units: u32) -> Volume
+        ensures { λ r. ⌜ r ≡ volume units ⌝ }
+    {
+        Volume(units)
+    }
+
+    pub fn units(self) -> u32
+        ensures { λ r. ⌜ r ≡ volumeUnits self ⌝ }
+    {
+        self.0
+    }
+}

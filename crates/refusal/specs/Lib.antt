@@ -1,0 +1,2 @@
+-- Ordered tests, and the first that fails.
+pub mod Test

@@ -1,0 +1,33 @@
+-- `schedule::row_count` meets its contract: its test is that of the definition. Assumes nothing.
+use mathlib.Core.Path.{sym}
+use native.Mathlib.Nat.{div-le-self}
+use native.Mathlib.Omega.{arith}
+use borrow.Author.Needs.{needs}
+use Rattle.schedule.specs.Rows.{count-even, count-odd}
+use Rattle.schedule.proofs.row_count.Statement.{statement}
+use Rattle.schedule.proofs.row_count.Tie as tie
+
+div-whole : tie.Need-div-whole
+div-whole c = search needs
+
+cast-whole : tie.Need-cast-whole
+cast-whole c = omega (arith, div-le-self (c .args .dh) (c .args .step))
+
+add-whole : tie.Need-add-whole
+add-whole c = omega (arith, div-le-self (c .args .dh) (c .args .step))
+
+rem-if1 : tie.Need-rem-if1
+rem-if1 c = search needs
+
+add-result : tie.Need-add-result
+add-result c = omega (arith, div-le-self (c .before .args .dh) (c .before .args .step))
+
+returns : tie.Need-returns
+returns c = omega (arith, count-even (c .before .args .dh) (c .before .args .step) (c .before .pre) (c .if1 .taken))
+
+returns-2 : tie.Need-returns-2
+returns-2 c = omega (arith, count-odd (c .before .args .dh) (c .before .args .step) (c .before .pre) (c .if1 .left))
+
+pub row-count-spec : {M : Type 1} → statement M
+row-count-spec =
+    tie.close (tie.spec div-whole cast-whole add-whole rem-if1 add-result returns returns-2)

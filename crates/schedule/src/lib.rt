@@ -1,0 +1,28 @@
+// The heights of the rows of a table: how many there are, and where each stands.
+ghost use mathlib.Core.Path.{_≡_};
+ghost use Prim.Native.Nat.{_<_};
+ghost use Rattle.measure.specs.Quantity.{dipHeight};
+ghost use Rattle.schedule.specs.Rows.{rowCount, rowHeight};
+use measure::dip_height::DipHeight;
+
+// How many rows a table has: one at each multiple of the step up to DH, and one more at DH where that is none.
+pub fn row_count(dh: u32, step: u32) -> usize
+    requires { ⌜ 0 < step ⌝ }
+    ensures { λ r. ⌜ r ≡ rowCount dh step ⌝ }
+{
+    let whole = (dh / step) as usize + 1;
+    if dh % step == 0 { whole } else { whole + 1 }
+}
+
+// The height of row i, which is below the row count.
+pub fn row_height(dh: u32, step: u32, i: usize) -> DipHeight
+    requires { ⌜ (0 < step) × (i < rowCount dh step) ⌝ }
+    ensures { λ r. ⌜ r ≡ dipHeight (rowHeight dh step i) ⌝ }
+{
+    let h = i * (step as usize);
+    if h < dh as usize {
+        DipHeight::of(h as u32)
+    } else {
+        DipHeight::of(dh)
+    }
+}
