@@ -7,3 +7,4 @@ pub mod Nearest
 pub mod Half
 pub mod Signed
 pub mod Fill
+pub mod Search

@@ -1,12 +1,14 @@
 -- Document 01, 'Refusal numbers, tested in this order': a test has the refusal's number, its place and whether it passes; the
 -- verdict on a list of tests is the first that fails. And its laws: over two lists in a row, and over a list of items each with
 -- tests of its own. Assumes nothing.
-use Prim.Native.Nat.{ℕ, zero, suc, _≤_, _<_}
+use Prim.Native.Nat.{ℕ, zero, suc, _≤_}
 use mathlib.Core.Path.{_≡_, refl}
 use mathlib.Core.Bool.{Bool, true, false, _&&_}
 use mathlib.Core.List.{List, [], _∷_, _++_}
+use borrow.Author.Tests.{leb-true}
 use lib.Dec.{leb}
 use Rattle.laws.specs.Order.{pick}
+use Rattle.laws.specs.Search.{and-left, and-right}
 use Rattle.refusal.specs.declared.Refusal.{Refusal}
 use Rattle.refusal.specs.declared.Verdict.{Verdict}
 use Rattle.refusal.specs.declared.Verdict.the-variants.{Sound, Refused}
@@ -35,6 +37,10 @@ items (suc n) f = items n f ++ f n
 -- a number within its limits
 abbrev pub within : (low x high : ℕ) → Bool
 within low x high = leb low x && leb x high
+
+pub within-limits : (low x high : ℕ) → within low x high ≡ true → (low ≤ x) × (x ≤ high)
+within-limits low x high h =
+    (leb-true low x (and-left (leb low x) (leb x high) h), leb-true x high (and-right (leb low x) (leb x high) h))
 
 -- the verdict on two lists in a row: the first's where that refuses
 abbrev pub after : Verdict → Verdict → Verdict

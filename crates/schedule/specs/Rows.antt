@@ -1,13 +1,20 @@
 -- Document 01, 'Volume': rows stand at 0, step, 2·step and so on up to DH, with one more row at DH if DH is no multiple of the
 -- step. And the laws of that schedule: all rows but the last stand below DH, the last at DH, and every multiple of the step up
 -- to DH is a row. Assumes nothing.
-use Prim.Native.Nat.{ℕ, zero, suc, _+_, _*_, _/_, _%_, _≤_, _<_, min}
-use mathlib.Core.Path.{_≡_}
-use native.Mathlib.Nat.{div-add-mod', mod-lt, min-eq-left, min-eq-right, min-le-right, le-min, le-of-lt, lt-of-le-of-lt, pos-of-ne-zero, mul-le-mul-right, suc-mul, zero-mul}
+use Prim.Native.Nat.{ℕ, zero, suc, _+_, _-_, _*_, _/_, _%_, _≤_, _<_, min}
+use mathlib.Core.Path.{_≡_, refl}
+use native.Mathlib.Nat.{div-add-mod', mod-lt, min-eq-left, min-eq-right, min-le-left, min-le-right, le-min, le-of-lt, le-trans, lt-of-le-of-lt, pos-of-ne-zero, mul-le-mul-right, suc-mul, zero-mul, div-mul-le-self, lt-div-mul-add}
 use native.Mathlib.Omega.{arith}
 use lib.Dec.{eqb}
 use borrow.Author.Tests.{eq-eqb, ne-eqb}
 use Rattle.laws.specs.Order.{by-order, pick}
+
+-- the limits of a step
+abbrev pub smallestStep : ℕ
+smallestStep = 100
+
+abbrev pub largestStep : ℕ
+largestStep = 10000
 
 unfoldable pub rowCount : (dh step : ℕ) → ℕ
 rowCount dh step = dh / step + 1 + pick (eqb (dh % step) 0) 0 1
@@ -61,9 +68,16 @@ module _ (dh step : ℕ) (p : 0 < step) where
   unfolding rowHeight
   height-at-most i = min-le-right (i * step) dh
 
+  pub height-in-steps : (i : ℕ) → rowHeight dh step i ≤ i * step
+  unfolding rowHeight
+  height-in-steps i = min-le-left (i * step) dh
+
   pub heights-rise : (i : ℕ) → i + 1 < rowCount dh step → rowHeight dh step i < rowHeight dh step (i + 1)
   unfolding rowHeight
   heights-rise i h = rw (height-before-last i h) (le-min (omega arith) (before-last i h))
+
+  pub gap-at-most : (i : ℕ) → i + 1 < rowCount dh step → rowHeight dh step (i + 1) ≤ rowHeight dh step i + step
+  gap-at-most i h = omega (arith, height-before-last i h, height-in-steps (i + 1))
 
   -- every multiple of the step up to DH is a row's height, by its own number
   pub multiple-in-count : (k : ℕ) → k * step ≤ dh → k < rowCount dh step
@@ -81,3 +95,30 @@ module _ (dh step : ℕ) (p : 0 < step) where
   pub steps-at-most : (i : ℕ) → i < rowCount dh step → i * step ≤ dh + step
   steps-at-most zero h = omega (arith, zero-mul step)
   steps-at-most (suc k) h = omega (arith, before-last k (omega arith), suc-mul k step)
+
+-- the last row at or below a height
+unfoldable pub rowBelow : (dh step h : ℕ) → ℕ
+rowBelow dh step h = pick (eqb h dh) (rowCount dh step - 1) (h / step)
+
+module _ (dh step : ℕ) (p : 0 < step) where
+  pub below-top : rowBelow dh step dh ≡ rowCount dh step - 1
+  unfolding rowBelow
+  below-top = rw (eq-eqb dh dh refl)
+
+  pub below-inside : (h : ℕ) → h < dh → rowBelow dh step h ≡ h / step
+  unfolding rowBelow
+  below-inside h l = rw (ne-eqb h dh (λ e. omega arith))
+
+  -- below DH there is a row above, and the height lies between the two
+  pub inside-count : (h : ℕ) → h < dh → h / step + 1 < rowCount dh step
+  inside-count h l =
+      by-order (rowCount dh step) (h / step + 1)
+      (λ m. absurd (omega (arith, at-last dh step p (h / step) m, div-mul-le-self h step)))
+      (λ m. m)
+
+  pub inside-above : (h : ℕ) → h < dh → h < rowHeight dh step (h / step + 1)
+  unfolding rowHeight
+  inside-above h l = le-min (omega (arith, lt-div-mul-add {a = h} p)) l
+
+  pub inside-below : (h : ℕ) → rowHeight dh step (h / step) ≤ h
+  inside-below h = le-trans (height-in-steps dh step p (h / step)) (div-mul-le-self h step)

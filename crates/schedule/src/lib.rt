@@ -5,6 +5,11 @@ ghost use Rattle.measure.specs.Quantity.{dipHeight};
 ghost use Rattle.schedule.specs.Rows.{rowCount, rowHeight};
 use measure::dip_height::DipHeight;
 
+// The limits of a step, in u: those of the definition.
+pub const SMALLEST_STEP: u32 = 100;
+
+pub const LARGEST_STEP: u32 = 10_000;
+
 // How many rows a table has: one at each multiple of the step up to DH, and one more at DH where that is none.
 pub fn row_count(dh: u32, step: u32) -> usize
     requires { ⌜ 0 < step ⌝ }

@@ -1,0 +1,112 @@
+-- `lookup::height::height_for` meets its contract: each return is the case of the answer that its tests lead to, and where the full
+-- tank reaches the volume the definition gives the lowest height. Assumes nothing.
+use mathlib.Core.Path.{_≡_, sym, _∙_, ap}
+use mathlib.Core.Bool.{true, false}
+use Prim.Native.Nat.{ℕ, _-_, _≤_}
+use native.Mathlib.Omega.{arith}
+use borrow.Author.Needs.{needs}
+use borrow.Author.Tests.{le-leb, lt-leb, not-true, not-false}
+use lib.ListN.{length}
+use Rattle.measure.specs.Quantity.{dipHeight, volumeUnits}
+use Rattle.schedule.specs.Rows.{rowCount, count-pos}
+use Rattle.lookup.specs.declared.height.HeightAnswer.the-variants.{Height}
+use Rattle.lookup.specs.Table.{row, soundTable, Sound, sound}
+use Rattle.lookup.specs.Litres.{litres, litres-at-top}
+use Rattle.lookup.specs.Height.{heightFor, reached}
+use Rattle.lookup.specs.Answer.{heightAnswer}
+use Rattle.lookup.proofs.height.height_for.Statement.{statement}
+use Rattle.lookup.proofs.height.height_for.Tie as tie
+
+-- past the first test the table is sound
+fine : (c : tie.Else1)
+    → soundTable (c .before .before .before .args .dh) (c .before .before .before .args .step) (c .before .before .before .args .table .now) ≡ true
+fine c = sym (c .before .is-sound .ensures) ∙ not-false _ (c .if1 .left)
+
+sound-table : (c : tie.Else1) → Sound (c .before .before .before .args .dh) (c .before .before .before .args .step) (c .before .before .before .args .table .now)
+sound-table c = sound _ _ _ (fine c)
+
+-- and has rows
+some-rows : (c : tie.Else1) → 1 ≤ length (c .before .before .before .args .table .now)
+some-rows c =
+    let a = c .before .before .before .args in
+    let s = sound-table c in
+    omega (arith, s .count, count-pos (a .dh) (a .step) (omega (arith, s .step-low)))
+
+-- past the second the last row, and so the full tank, reaches the volume
+enough : (c : tie.Else2)
+    → volumeUnits (c .before .before .before .before .before .before .args .volume)
+    ≤ row (c .before .before .before .before .before .before .args .table .now)
+    (rowCount (c .before .before .before .before .before .before .args .dh) (c .before .before .before .before .before .before .args .step) - 1)
+enough c = rw (← sound-table (c .before .before .before) .count) (omega (arith, c .before .before .units .ensures))
+
+full : (c : tie.Else2)
+    → volumeUnits (c .before .before .before .before .before .before .args .volume)
+    ≤ litres (c .before .before .before .before .before .before .args .dh) (c .before .before .before .before .before .before .args .step)
+    (c .before .before .before .before .before .before .args .table .now) (c .before .before .before .before .before .before .args .dh)
+full c = rw (litres-at-top _ _ _ (sound-table (c .before .before .before))) (enough c)
+
+is-sound-requires : tie.Need-is-sound-requires
+is-sound-requires c κs = search needs
+
+returns : tie.Need-returns
+unfolding heightAnswer
+returns c =
+    let a = c .before .before .before .args in
+    let faulty : soundTable (a .dh) (a .step) (a .table .now) ≡ false = sym (c .before .is-sound .ensures) ∙ not-true _ (c .if1 .taken) in
+    (simp faulty, tt)
+
+units-requires : tie.Need-units-requires
+units-requires c κs = search needs
+
+sub-if2 : tie.Need-sub-if2
+sub-if2 c = some-rows (c .before)
+
+mul-if2 : tie.Need-mul-if2
+mul-if2 c = search needs
+
+shared-slice-read-if2 : tie.Need-shared-slice-read-if2
+shared-slice-read-if2 c = omega (arith, some-rows (c .before .before))
+
+returns-2 : tie.Need-returns-2
+unfolding heightAnswer
+returns-2 c =
+    let a = c .before .before .before .before .before .before .args in
+    let s = sound-table (c .before .before .before) in
+    let last = ap (λ (n : ℕ). row (a .table .now) (n - 1)) (s .count) in
+    (simp (fine (c .before .before .before), lt-leb (volumeUnits (a .volume)) (row (a .table .now) (rowCount (a .dh) (a .step) - 1)) (omega (arith, c .before .before .units .ensures))), tt)
+
+lowest-requires : tie.Need-lowest-requires
+lowest-requires c κs = (
+  sound-table (c .before .before .before),
+  record { order = omega arith; inside = omega arith; reaches = rw (c .before .before .units .ensures) (full c); first = λ lower l. absurd (omega arith) },
+)
+
+of-requires : tie.Need-of-requires
+of-requires c κs = search needs
+
+returns-3 : tie.Need-returns-3
+unfolding heightAnswer
+returns-3 c =
+    let checked = c .before .before in
+    let a = checked .before .before .before .before .before .before .args in
+    let w = checked .before .before .units .ensures in
+    let h = c .before .lowest .ensures ∙ ap (heightFor (a .dh) (a .step) (a .table .now)) w in
+    let given = c .of .ensures ∙ ap dipHeight h in (
+      simp (fine (checked .before .before .before), le-leb _ _ (enough checked)) (ap Height given),
+      rw given (reached (full checked)),
+    )
+
+pub height-for-spec : {M : Type 1} → statement M
+height-for-spec =
+    tie.close
+    (tie.spec
+    is-sound-requires
+    returns
+    units-requires
+    sub-if2
+    mul-if2
+    shared-slice-read-if2
+    returns-2
+    lowest-requires
+    of-requires
+    returns-3)

@@ -1,0 +1,63 @@
+-- `lookup::litres::litres_at` meets its contract: each return is the case of the answer that its tests lead to. Assumes nothing.
+use mathlib.Core.Path.{_≡_, sym, _∙_, ap}
+use mathlib.Core.Bool.{true, false}
+use native.Mathlib.Omega.{arith}
+use borrow.Author.Needs.{needs}
+use borrow.Author.Tests.{le-leb, lt-leb, not-true, not-false}
+use Rattle.measure.specs.Quantity.{dipUnits, volume}
+use Rattle.lookup.specs.declared.litres.LitresAnswer.the-variants.{Litres}
+use Rattle.lookup.specs.Table.{soundTable, sound}
+use Rattle.lookup.specs.Litres.{litres}
+use Rattle.lookup.specs.Answer.{litresAnswer}
+use Rattle.lookup.proofs.litres.litres_at.Statement.{statement}
+use Rattle.lookup.proofs.litres.litres_at.Tie as tie
+
+-- past the first test the table is sound
+fine : (c : tie.Else1)
+    → soundTable (c .before .before .before .args .dh) (c .before .before .before .args .step) (c .before .before .before .args .table .now) ≡ true
+fine c = sym (c .before .is-sound .ensures) ∙ not-false _ (c .if1 .left)
+
+is-sound-requires : tie.Need-is-sound-requires
+is-sound-requires c κs = search needs
+
+returns : tie.Need-returns
+unfolding litresAnswer
+returns c =
+    let a = c .before .before .before .args in
+    let faulty : soundTable (a .dh) (a .step) (a .table .now) ≡ false = sym (c .before .is-sound .ensures) ∙ not-true _ (c .if1 .taken) in
+    simp faulty
+
+units-requires : tie.Need-units-requires
+units-requires c κs = search needs
+
+returns-2 : tie.Need-returns-2
+unfolding litresAnswer
+returns-2 c =
+    let a = c .before .before .before .before .before .args in
+    simp (fine (c .before .before), lt-leb (dipUnits (a .height)) (a .dh) (omega (arith, c .before .units .ensures)))
+
+litres-inside-requires : tie.Need-litres-inside-requires
+litres-inside-requires c κs = (sound _ _ _ (fine (c .before .before)), omega arith)
+
+of-requires : tie.Need-of-requires
+of-requires c κs = search needs
+
+returns-3 : tie.Need-returns-3
+unfolding litresAnswer
+returns-3 c =
+    let a = c .before .before .before .before .before .before .before .args in
+    let height = c .before .before .before .units .ensures in
+    simp (fine (c .before .before .before .before), le-leb (dipUnits (a .height)) (a .dh) (omega (arith, height)))
+    (ap Litres (c .of .ensures ∙ ap volume (c .before .litres-inside .ensures ∙ ap (litres (a .dh) (a .step) (a .table .now)) height)))
+
+pub litres-at-spec : {M : Type 1} → statement M
+litres-at-spec =
+    tie.close
+    (tie.spec
+    is-sound-requires
+    returns
+    units-requires
+    returns-2
+    litres-inside-requires
+    of-requires
+    returns-3)

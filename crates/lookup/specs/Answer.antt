@@ -1,0 +1,46 @@
+-- The answers of both lookups: the tests in the paper's order, each with its number and place, and the figure where all pass.
+-- Assumes nothing.
+use Prim.Native.Nat.{ℕ, _-_}
+use mathlib.Core.List.{List, [], _∷_}
+use lib.Dec.{leb}
+use Rattle.measure.specs.Quantity.{dipHeight, dipUnits, volume}
+use Rattle.refusal.specs.declared.Verdict.{Verdict}
+use Rattle.refusal.specs.declared.Verdict.the-variants.{Sound, Refused}
+use Rattle.refusal.specs.Test.{Test, test, verdict}
+use Rattle.schedule.specs.Rows.{rowCount}
+use Rattle.lookup.specs.declared.litres.LitresAnswer.{LitresAnswer}
+use Rattle.lookup.specs.declared.litres.LitresAnswer.the-variants as litresAnswers
+use Rattle.lookup.specs.declared.height.HeightAnswer.{HeightAnswer}
+use Rattle.lookup.specs.declared.height.HeightAnswer.the-variants as heightAnswers
+use Rattle.lookup.specs.Table.{row, soundTable}
+use Rattle.lookup.specs.Litres.{litres}
+use Rattle.lookup.specs.Height.{heightFor, Lowest}
+
+-- ---- litres at a height
+
+abbrev pub litresTests : (dh step : ℕ) (table : List ℕ) (h : ℕ) → List Test
+litresTests dh step table h = test 11 0 (soundTable dh step table) ∷ test 12 0 (leb h dh) ∷ []
+
+abbrev pub litresBy : Verdict → ℕ → LitresAnswer
+litresBy Sound v = litresAnswers.Litres (volume v)
+litresBy (Refused r) v = litresAnswers.Refused r
+
+unfoldable pub litresAnswer : (dh step : ℕ) (table : List ℕ) (h : ℕ) → LitresAnswer
+litresAnswer dh step table h = litresBy (verdict (litresTests dh step table h)) (litres dh step table h)
+
+-- ---- the lowest height for a volume
+
+abbrev pub heightTests : (dh step : ℕ) (table : List ℕ) (w : ℕ) → List Test
+heightTests dh step table w = test 11 0 (soundTable dh step table) ∷ test 13 0 (leb w (row table (rowCount dh step - 1))) ∷ []
+
+abbrev pub heightBy : Verdict → ℕ → HeightAnswer
+heightBy Sound h = heightAnswers.Height (dipHeight h)
+heightBy (Refused r) h = heightAnswers.Refused r
+
+unfoldable pub heightAnswer : (dh step : ℕ) (table : List ℕ) (w : ℕ) → HeightAnswer
+heightAnswer dh step table w = heightBy (verdict (heightTests dh step table w)) (heightFor dh step table w)
+
+-- of a height given as the answer, what it is, said outright
+abbrev pub Reached : (dh step : ℕ) (table : List ℕ) (w : ℕ) → HeightAnswer → Type 0
+Reached dh step table w (heightAnswers.Height h) = Lowest dh step table w (dipUnits h)
+Reached dh step table w (heightAnswers.Refused r) = Unit {0}

@@ -1,0 +1,53 @@
+// The lowest height for a volume, by halving the heights that are left.
+ghost use mathlib.Core.Path.{_≡_};
+ghost use Rattle.measure.specs.Quantity.{volumeUnits};
+ghost use Rattle.lookup.specs.Table.{Sound};
+ghost use Rattle.lookup.specs.Height.{heightFor, Among};
+ghost use Rattle.lookup.specs.Answer.{heightAnswer, Reached};
+use crate::litres::litres_inside;
+use crate::table::is_sound;
+use measure::dip_height::DipHeight;
+use measure::volume::Volume;
+use refusal::Refusal;
+
+pub enum HeightAnswer {
+    Height(DipHeight),
+    Refused(Refusal),
+}
+
+// The lowest height is one of low to high. Look at the middle, rounded down: it is above the middle if the litres there are too
+// few, else the middle or below.
+fn lowest(dh: u32, step: u32, table: &[u32], w: u32, low: u32, high: u32) -> u32
+    requires { ⌜ Sound dh step (now table) × Among dh step (now table) w low high ⌝ }
+    ensures { λ r. ⌜ r ≡ heightFor dh step (now (table .entry)) w ⌝ }
+{
+    if low == high {
+        return low;
+    }
+    let middle = low + (high - low) / 2;
+    if litres_inside(dh, step, table, middle) < w {
+        lowest(dh, step, table, w, middle + 1, high)
+    } else {
+        lowest(dh, step, table, w, low, middle)
+    }
+}
+
+pub fn height_for(dh: u32, step: u32, table: &[u32], volume: Volume) -> HeightAnswer
+    ensures { λ r. ⌜ r ≡ heightAnswer dh step (now (table .entry)) (volumeUnits volume) ⌝ }
+    ensures { λ r. ⌜ Reached dh step (now (table .entry)) (volumeUnits volume) r ⌝ }
+{
+    if !is_sound(dh, step, table) {
+        return HeightAnswer::Refused(Refusal {
+            number: 11,
+            place: 0,
+        });
+    }
+    let w = volume.units();
+    if table[table.len() - 1] < w {
+        return HeightAnswer::Refused(Refusal {
+            number: 13,
+            place: 0,
+        });
+    }
+    HeightAnswer::Height(DipHeight::of(lowest(dh, step, table, w, 0, dh)))
+}

@@ -1,0 +1,50 @@
+// Litres at a height.
+ghost use mathlib.Core.Path.{_≡_};
+ghost use Prim.Native.Nat.{_≤_};
+ghost use Rattle.measure.specs.Quantity.{dipUnits};
+ghost use Rattle.lookup.specs.Table.{Sound};
+ghost use Rattle.lookup.specs.Litres.{litres};
+ghost use Rattle.lookup.specs.Answer.{litresAnswer};
+use crate::line::on_line;
+use crate::table::is_sound;
+use measure::dip_height::DipHeight;
+use measure::volume::Volume;
+use refusal::Refusal;
+
+pub enum LitresAnswer {
+    Litres(Volume),
+    Refused(Refusal),
+}
+
+// On a sound table, at a height within the tank.
+pub fn litres_inside(dh: u32, step: u32, table: &[u32], h: u32) -> u32
+    requires { ⌜ Sound dh step (now table) × (h ≤ dh) ⌝ }
+    ensures { λ r. ⌜ r ≡ litres dh step (now (table .entry)) h ⌝ }
+{
+    if h == dh {
+        return table[table.len() - 1];
+    }
+    let i = (h / step) as usize;
+    let low = schedule::row_height(dh, step, i).units();
+    let high = schedule::row_height(dh, step, i + 1).units();
+    on_line(table, i, h - low, high - low)
+}
+
+pub fn litres_at(dh: u32, step: u32, table: &[u32], height: DipHeight) -> LitresAnswer
+    ensures { λ r. ⌜ r ≡ litresAnswer dh step (now (table .entry)) (dipUnits height) ⌝ }
+{
+    if !is_sound(dh, step, table) {
+        return LitresAnswer::Refused(Refusal {
+            number: 11,
+            place: 0,
+        });
+    }
+    let h = height.units();
+    if dh < h {
+        return LitresAnswer::Refused(Refusal {
+            number: 12,
+            place: 0,
+        });
+    }
+    LitresAnswer::Litres(Volume::of(litres_inside(dh, step, table, h)))
+}
