@@ -1,8 +1,10 @@
 // The two lookup readings of document 01, 'Readings off the stick', on its six-row table: the height and its litres, then the
 // litres and their lowest height, in mm and litres as the paper writes figures.
 use libc::STDOUT_FILENO;
-use lookup::height::{HeightAnswer, height_for};
-use lookup::litres::{LitresAnswer, litres_at};
+use lookup::height::HeightAnswer;
+use lookup::height::height_for;
+use lookup::litres::LitresAnswer;
+use lookup::litres::litres_at;
 use measure::dip_height::DipHeight;
 use measure::volume::Volume;
 
