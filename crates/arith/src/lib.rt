@@ -1,5 +1,6 @@
 // Arithmetic on machine numbers, each function equal to its definition: the nearest quotient, the nearest quotient of a product
-// that passes 64 bits, and the integer root.
+// that passes 64 bits, the integer root, and signed numbers.
 pub mod nearest;
 pub mod product;
 pub mod root;
+pub mod signed;

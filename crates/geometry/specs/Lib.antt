@@ -2,5 +2,7 @@
 pub mod Circle
 pub mod Level
 pub mod Area
+pub mod Cap
 pub mod Volume
+pub mod VolumeLaws
 pub mod Walk

@@ -1,3 +1,4 @@
-// The geometry of a lying tank: the circle of its shell, and its heads.
+// The geometry of a lying tank: the circle of its shell, its heads, and the volumes of its parts.
 pub mod circle;
 pub mod heads;
+pub mod volume;

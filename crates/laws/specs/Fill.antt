@@ -9,41 +9,41 @@ use lib.ListN.{length, getD, take, drop, set, length-append, length-set, take-ap
 use lib.Seq.{take-suc-set, drop-set-lt, drop-drop, getD-at}
 use Rattle.laws.specs.Order.{by-order}
 
-unfoldable pub rowsOf : (ℕ → ℕ) → ℕ → List ℕ
+unfoldable pub rowsOf : {A : Type 0} → (ℕ → A) → ℕ → List A
 rowsOf f zero = []
 rowsOf f (suc n) = rowsOf f n ++ (f n ∷ [])
 
-pub length-rowsOf : (f : ℕ → ℕ) (n : ℕ) → length (rowsOf f n) ≡ n
+pub length-rowsOf : {A : Type 0} (f : ℕ → A) (n : ℕ) → length (rowsOf f n) ≡ n
 unfolding rowsOf
 length-rowsOf f zero = refl
 length-rowsOf f (suc n) = length-append (rowsOf f n) (f n ∷ []) ∙ ap (λ (k : ℕ). k + 1) (length-rowsOf f n) ∙ add-one n
 
-pub getD-rowsOf : (f : ℕ → ℕ) (n i : ℕ) → i < n → getD (rowsOf f n) i 0 ≡ f i
+pub getD-rowsOf : {A : Type 0} (f : ℕ → A) (d : A) (n i : ℕ) → i < n → getD (rowsOf f n) i d ≡ f i
 unfolding rowsOf
-getD-rowsOf f zero i h = absurd (omega arith)
-getD-rowsOf f (suc n) i h =
+getD-rowsOf f d zero i h = absurd (omega arith)
+getD-rowsOf f d (suc n) i h =
     let size = length-rowsOf f n in
     by-order n i
-    (λ l. getD-at (rowsOf f n) (f n) [] 0 i (size ∙ same l) ∙ ap f (same l))
-    (λ l. List·getD-append (rowsOf f n) (f n ∷ []) 0 i (omega arith) ∙ getD-rowsOf f n i l)
+    (λ l. getD-at (rowsOf f n) (f n) [] d i (size ∙ same l) ∙ ap f (same l))
+    (λ l. List·getD-append (rowsOf f n) (f n ∷ []) d i (omega arith) ∙ getD-rowsOf f d n i l)
   where
     same : n ≤ i → n ≡ i
     same l = omega arith
 
 -- after i steps of a fill that began with the list `start`
-pub record Filled (start : List ℕ) (f : ℕ → ℕ) (i : ℕ) (out : List ℕ) : Type 0 where
+pub record Filled {A : Type 0} (start : List A) (f : ℕ → A) (i : ℕ) (out : List A) : Type 0 where
   pub front : take i out ≡ rowsOf f i
   pub rest : drop i out ≡ drop i start
   pub size : length out ≡ length start
 
-pub filled-none : (start : List ℕ) (f : ℕ → ℕ) → Filled start f 0 start
+pub filled-none : {A : Type 0} (start : List A) (f : ℕ → A) → Filled start f 0 start
 unfolding rowsOf
 filled-none start f = record { front = refl; rest = refl; size = refl }
 
-pub filled-more : {start out : List ℕ} {f : ℕ → ℕ} {i : ℕ} → i < length start → Filled start f i out → Filled start f (i + 1) (set out i (f i))
+pub filled-more : {A : Type 0} {start out : List A} {f : ℕ → A} {i : ℕ} → i < length start → Filled start f i out → Filled start f (i + 1) (set out i (f i))
 unfolding rowsOf
-filled-more {start} {out} {f} {i} h was = record {
-  front = rw add-one (take-suc-set out i (f i) (omega arith) ∙ ap (λ (l : List ℕ). l ++ (f i ∷ [])) (was .front));
+filled-more {A} {start} {out} {f} {i} h was = record {
+  front = rw add-one (take-suc-set out i (f i) (omega arith) ∙ ap (λ (l : List A). l ++ (f i ∷ [])) (was .front));
   rest =
       drop-set-lt (i + 1) out i (f i) (omega arith)
       ∙ sym (drop-drop 1 i out)
@@ -52,5 +52,5 @@ filled-more {start} {out} {f} {i} h was = record {
   size = length-set out i (f i) ∙ was .size;
 }
 
-pub filled-all : {start out : List ℕ} {f : ℕ → ℕ} {n : ℕ} → Filled start f n out → out ≡ rowsOf f n ++ drop n start
-filled-all {start} {out} {f} {n} was = sym (take-append-drop n out) ∙ ap₂ _++_ (was .front) (was .rest)
+pub filled-all : {A : Type 0} {start out : List A} {f : ℕ → A} {n : ℕ} → Filled start f n out → out ≡ rowsOf f n ++ drop n start
+filled-all {A} {start} {out} {f} {n} was = sym (take-append-drop n out) ∙ ap₂ _++_ (was .front) (was .rest)

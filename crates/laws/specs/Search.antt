@@ -14,16 +14,10 @@ pub by-test {ℓ} : {A : Type ℓ} (b : Bool) → (b ≡ true → A) → (b ≡ 
 by-test true f g = f refl
 by-test false f g = g refl
 
-pub and-left : (a b : Bool) → a && b ≡ true → a ≡ true
-and-left true b h = refl
-and-left false true h = h
-and-left false false h = h
-
-pub and-right : (a b : Bool) → a && b ≡ true → b ≡ true
-and-right true true h = refl
-and-right true false h = h
-and-right false true h = refl
-and-right false false h = h
+-- two tests that pass together pass each
+pub both-pass : (a b : Bool) → a && b ≡ true → (a ≡ true) × (b ≡ true)
+both-pass true b e = (refl, e)
+both-pass false b e = absurd (true-not-false (sym e))
 
 -- p holds of 0, 1, .., n - 1
 unfoldable pub every : ℕ → (ℕ → Bool) → Bool
@@ -43,8 +37,8 @@ unfolding every
 every-at zero p all i l = absurd (omega arith)
 every-at (suc n) p all i l =
     by-order n i
-    (λ m. let last : i ≡ n = omega arith in ap p last ∙ and-right (every n p) (p n) all)
-    (λ m. every-at n p (and-left (every n p) (p n) all) i m)
+    (λ m. let last : i ≡ n = omega arith in ap p last ∙ both-pass (every n p) (p n) all .1)
+    (λ m. every-at n p (both-pass (every n p) (p n) all .0) i m)
 
 pub every-not : (n : ℕ) (p : ℕ → Bool) (i : ℕ) → i < n → p i ≡ false → every n p ≡ false
 every-not n p i l fails = by-test (every n p) (λ all. absurd (true-not-false (sym (every-at n p all i l) ∙ fails))) (λ e. e)

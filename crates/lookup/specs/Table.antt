@@ -8,9 +8,9 @@ use native.Mathlib.Omega.{arith}
 use borrow.Author.Tests.{leb-true, eqb-true}
 use lib.Dec.{leb, eqb}
 use lib.ListN.{length, getD}
-use Rattle.laws.specs.Search.{every, every-at, and-left, and-right}
+use Rattle.laws.specs.Search.{every, every-at, both-pass}
 use Rattle.measure.specs.Diameter.{smallest, largest}
-use Rattle.refusal.specs.Test.{within, within-limits}
+use Rattle.refusal.specs.Test.{within, within-pass}
 use Rattle.schedule.specs.Rows.{rowCount, smallestStep, largestStep}
 
 -- row i of a table
@@ -40,17 +40,17 @@ pub record Sound (dh step : ℕ) (table : List ℕ) : Type 0 where
 pub sound : (dh step : ℕ) (table : List ℕ) → soundTable dh step table ≡ true → Sound dh step table
 unfolding soundTable neverFalls
 sound dh step table h =
-    let a = within-limits smallest dh largest (and-left _ _ h) in
-    let h₁ = and-right (within smallest dh largest) _ h in
-    let b = within-limits smallestStep step largestStep (and-left _ _ h₁) in
-    let h₂ = and-right (within smallestStep step largestStep) _ h₁ in
-    let size = eqb-true (length table) (rowCount dh step) (and-left _ _ h₂) in
-    let rises = and-right (eqb (length table) (rowCount dh step)) _ h₂ in
+    let a = both-pass (within smallest dh largest) _ h in
+    let b = both-pass (within smallestStep step largestStep) _ (a .1) in
+    let c = both-pass (eqb (length table) (rowCount dh step)) (neverFalls table) (b .1) in
+    let limits = within-pass smallest dh largest (a .0) in
+    let steps = within-pass smallestStep step largestStep (b .0) in
+    let size = eqb-true (length table) (rowCount dh step) (c .0) in
     record {
-      dh-low = a .0;
-      dh-high = a .1;
-      step-low = b .0;
-      step-high = b .1;
+      dh-low = limits .0;
+      dh-high = limits .1;
+      step-low = steps .0;
+      step-high = steps .1;
       count = size;
-      keeps-up = λ i l. leb-true _ _ (every-at (length table - 1) (keeps table) rises i (omega arith));
+      keeps-up = λ i l. leb-true _ _ (every-at (length table - 1) (keeps table) (c .1) i (omega arith));
     }

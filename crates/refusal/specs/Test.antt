@@ -8,7 +8,7 @@ use mathlib.Core.List.{List, [], _∷_, _++_}
 use borrow.Author.Tests.{leb-true}
 use lib.Dec.{leb}
 use Rattle.laws.specs.Order.{pick}
-use Rattle.laws.specs.Search.{and-left, and-right}
+use Rattle.laws.specs.Search.{both-pass}
 use Rattle.refusal.specs.declared.Refusal.{Refusal}
 use Rattle.refusal.specs.declared.Verdict.{Verdict}
 use Rattle.refusal.specs.declared.Verdict.the-variants.{Sound, Refused}
@@ -38,9 +38,10 @@ items (suc n) f = items n f ++ f n
 abbrev pub within : (low x high : ℕ) → Bool
 within low x high = leb low x && leb x high
 
-pub within-limits : (low x high : ℕ) → within low x high ≡ true → (low ≤ x) × (x ≤ high)
-within-limits low x high h =
-    (leb-true low x (and-left (leb low x) (leb x high) h), leb-true x high (and-right (leb low x) (leb x high) h))
+pub within-pass : (low x high : ℕ) → within low x high ≡ true → (low ≤ x) × (x ≤ high)
+within-pass low x high e =
+    let both = both-pass (leb low x) (leb x high) e in
+    (leb-true low x (both .0), leb-true x high (both .1))
 
 -- the verdict on two lists in a row: the first's where that refuses
 abbrev pub after : Verdict → Verdict → Verdict

@@ -9,7 +9,7 @@ use Rattle.laws.specs.Sum.{sum, sum-below, sum-above, sum-scale}
 use Rattle.geometry.specs.Circle.{chordSquare}
 use Rattle.slabs.specs.Slab.{smallerFace, largerFace}
 use Rattle.slabs.specs.Face.{smaller-le-lower, smaller-le-upper, larger-face}
-use Rattle.slabs.specs.Cap.{cap, cap-empty, cap-scale, cap-step, below-middle, above-middle, at-middle}
+use Rattle.geometry.specs.Cap.{cap, cap-empty, cap-scale, cap-step, below-middle, above-middle, at-middle}
 
 abbrev fitting : (d h n i : ℕ) → ℕ
 fitting d h n = smallerFace (chordSquare (n * d)) h

@@ -9,13 +9,10 @@ use Rattle.geometry.specs.declared.heads.HeadKind.{HeadKind}
 use Rattle.geometry.specs.declared.heads.HeadKind.the-variants.{Flat, HalfEllipsoid}
 use Rattle.geometry.specs.Volume.{headsVolume, cubicPerV}
 use Rattle.slabs.specs.Slab.{headsSlabs, headsFitting, headsCovering}
-use Rattle.slabs.specs.Cap.{cap, cap-at-most}
+use Rattle.geometry.specs.Cap.{cap, cap-at-most}
+use Rattle.geometry.specs.VolumeLaws.{volume-by-cap}
 use Rattle.slabs.specs.HeadSlabs.{heads-fit, heads-cover}
 use Rattle.slabs.specs.Within.{Within}
-
-volume-by-cap : (d l h : ℕ) → headsVolume HalfEllipsoid d l h ≡ nearest (355 * l * cap d h) (113 * (3 * d) * cubicPerV)
-unfolding headsVolume cap
-volume-by-cap d l h = rw (mul-assoc (355 * l) (h * h) (3 * d - 2 * h)) refl
 
 -- the largest head
 cap-limit : (d l h : ℕ) → h ≤ d → d ≤ 500000 → l ≤ 260000 → l * cap d h ≤ 260000 * (500000 * 500000 * d)

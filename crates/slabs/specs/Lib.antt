@@ -8,7 +8,6 @@ pub mod Cell
 pub mod Area
 pub mod Within
 pub mod Cylinder
-pub mod Cap
 pub mod HeadSlabs
 pub mod Heads
 pub mod Condition3

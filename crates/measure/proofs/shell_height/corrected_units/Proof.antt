@@ -17,7 +17,7 @@ use Rattle.measure.proofs.shell_height.corrected_units.Tie as tie
 module _ (d dh h : ℕ) (fits-d : d < 2 ^ 32) (fits-dh : dh < 2 ^ 32) (fits-h : h < 2 ^ 32) where
   raised-fits : SFits w64 (pos h +ℤ halfDifference d dh)
   raised-fits =
-      record { sfits = omega (arith, difference-size d dh, half-size (subℕ d dh), sum-size h (halfDifference d dh)) }
+      record { sfits = omega (arith, difference-size d dh, half-size (subℕ d dh), sum-size (pos h) (halfDifference d dh)) }
 
   -- the code's sum, with z what the half difference came to
   raised : (z : ℤ) → SFits w64 z → z ≡ halfDifference d dh → toZ w64 h +ℤ toZ w64 (ofZ w64 z) ≡ pos h +ℤ halfDifference d dh

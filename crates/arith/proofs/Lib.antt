@@ -1,0 +1,2 @@
+-- Laws that more than one proof of this crate cites.
+pub mod Sums

@@ -1,0 +1,2 @@
+// From a survey to its capacity table.
+pub mod share;
