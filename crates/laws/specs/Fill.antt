@@ -30,6 +30,12 @@ getD-rowsOf f d (suc n) i h =
     same : n ≤ i → n ≡ i
     same l = omega arith
 
+-- rows that agree make the same list
+pub rowsOf-agree : {A : Type 0} (f g : ℕ → A) (n : ℕ) → ((i : ℕ) → i < n → f i ≡ g i) → rowsOf f n ≡ rowsOf g n
+unfolding rowsOf
+rowsOf-agree f g zero h = refl
+rowsOf-agree f g (suc n) h = ap₂ (λ l x. l ++ (x ∷ [])) (rowsOf-agree f g n (λ i l. h i (omega arith))) (h n (omega arith))
+
 -- after i steps of a fill that began with the list `start`
 pub record Filled {A : Type 0} (start : List A) (f : ℕ → A) (i : ℕ) (out : List A) : Type 0 where
   pub front : take i out ≡ rowsOf f i

@@ -41,6 +41,10 @@ pub mag-at-most : (z : ℤ) → mag z ≤ natAbs z
 mag-at-most (pos n) = le-refl n
 mag-at-most (negsuc n) = omega arith
 
+pub natAbs-at-most : (z : ℤ) → natAbs z ≤ mag z + 1
+natAbs-at-most (pos n) = omega arith
+natAbs-at-most (negsuc n) = omega arith
+
 -- a size with the sign of z
 abbrev pub withSign : ℤ → ℕ → ℤ
 withSign (pos z) n = pos n

@@ -68,6 +68,10 @@ module _ (dh step : ℕ) (p : 0 < step) where
   unfolding rowHeight
   height-at-most i = min-le-right (i * step) dh
 
+  pub height-next : (i : ℕ) → rowHeight dh step i ≤ rowHeight dh step (i + 1)
+  unfolding rowHeight
+  height-next i = le-min (omega (arith, min-le-left (i * step) dh)) (min-le-right (i * step) dh)
+
   pub height-in-steps : (i : ℕ) → rowHeight dh step i ≤ i * step
   unfolding rowHeight
   height-in-steps i = min-le-left (i * step) dh
@@ -122,3 +126,9 @@ module _ (dh step : ℕ) (p : 0 < step) where
 
   pub inside-below : (h : ℕ) → rowHeight dh step (h / step) ≤ h
   inside-below h = le-trans (height-in-steps dh step p (h / step)) (div-mul-le-self h step)
+
+-- no table has more rows than this
+pub few-rows : (dh step : ℕ) → dh ≤ 500000 → smallestStep ≤ step → rowCount dh step ≤ 5001
+few-rows dh step d l =
+    by-order (rowCount dh step) 5001 (λ m. m)
+    (λ m. absurd (omega (arith, before-last dh step (omega arith) 5000 (omega arith))))

@@ -1,0 +1,62 @@
+-- `survey::deadwood::deadwood_tested` meets its contract. The loop's invariant: v is the verdict on the items passed. The measure is
+-- what is left of them. Assumes nothing.
+use mathlib.Core.Path.{_≡_, refl, _∙_}
+use Prim.Native.Nat.{_-_, _≤_}
+use native.Mathlib.Omega.{arith}
+use Rattle.refusal.specs.Test.{verdict, items, verdict-next}
+use Rattle.survey.specs.Tests.{deadwoodTests}
+use Rattle.survey.proofs.deadwood.deadwood_tested.Statement.{statement}
+use Rattle.survey.proofs.deadwood.deadwood_tested.Tie as tie
+
+abbrev Inv-loop : tie.InvT-loop
+Inv-loop s count v₀ i₀ v i = (i ≤ count) × (v ≡ verdict (items i (deadwoodTests s)))
+
+abbrev μ-loop : tie.MeasureT-loop
+μ-loop s count v₀ i₀ v i = count - i
+
+word-requires : tie.Need-word-requires Inv-loop μ-loop
+word-requires c κs = omega arith
+
+cast-count : tie.Need-cast-count Inv-loop μ-loop
+cast-count c = omega arith
+
+loop-holds : tie.Need-loop-holds Inv-loop μ-loop
+unfolding items
+loop-holds c = (omega arith, refl)
+
+item-tested-requires : tie.Need-item-tested-requires Inv-loop μ-loop
+item-tested-requires c κs = (c .before .before .before .before .pre, omega arith)
+
+add-i : tie.Need-add-i Inv-loop μ-loop
+add-i c = omega arith
+
+loop-less : tie.Need-loop-less Inv-loop μ-loop
+loop-less c = omega arith
+
+loop-again : tie.Need-loop-again Inv-loop μ-loop
+loop-again c =
+    let s = c .before .before .before .before .before .args .s .now in
+    let l = c .before .before .loop in
+    (omega arith, c .item-tested .ensures ∙ verdict-next (l .i) (deadwoodTests s) (l .inv .1))
+
+returns : tie.Need-returns Inv-loop μ-loop
+returns c =
+    let l = c .before .loop in
+    let w = c .before .before .word in
+    let all : w .result ≡ l .i = omega arith in
+    rw (← w .ensures, all) (l .inv .1)
+
+pub deadwood-tested-spec : {M : Type 1} → statement M
+deadwood-tested-spec =
+    tie.close
+    (tie.spec
+    Inv-loop
+    μ-loop
+    word-requires
+    cast-count
+    loop-holds
+    item-tested-requires
+    add-i
+    loop-less
+    loop-again
+    returns)

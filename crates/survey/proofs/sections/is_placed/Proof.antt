@@ -1,0 +1,25 @@
+-- `survey::sections::is_placed` meets its contract: each return picks the case of the definition that its tests lead to.
+-- Assumes nothing.
+use borrow.Author.Tests.{eq-eqb, ne-eqb, le-leb, lt-leb}
+use borrow.Author.Needs.{needs}
+use Rattle.survey.specs.Tests.{placed}
+use Rattle.survey.proofs.sections.is_placed.Statement.{statement}
+use Rattle.survey.proofs.sections.is_placed.Tie as tie
+
+returns : tie.Need-returns
+unfolding placed
+returns c = rw (eq-eqb _ _ (c .if1 .taken))
+
+add-result : tie.Need-add-result
+add-result c = search needs
+
+returns-2 : tie.Need-returns-2
+unfolding placed
+returns-2 c = rw (ne-eqb _ _ (c .before .if1 .left), le-leb _ _ (c .if2 .taken))
+
+returns-3 : tie.Need-returns-3
+unfolding placed
+returns-3 c = rw (ne-eqb _ _ (c .before .if1 .left), lt-leb _ _ (c .if2 .left))
+
+pub is-placed-spec : {M : Type 1} → statement M
+is-placed-spec = tie.close (tie.spec returns add-result returns-2 returns-3)

@@ -1,0 +1,13 @@
+-- `survey::tests::kind_known` meets its contract: the word is the definition's. Assumes nothing.
+use borrow.Author.Needs.{needs}
+use Rattle.survey.proofs.tests.kind_known.Statement.{statement}
+use Rattle.survey.proofs.tests.kind_known.Tie as tie
+
+word-requires : tie.Need-word-requires
+word-requires c κs = search needs
+
+returns : tie.Need-returns
+returns c = cc
+
+pub kind-known-spec : {M : Type 1} → statement M
+kind-known-spec = tie.close (tie.spec word-requires returns)

@@ -1,0 +1,20 @@
+-- `table::filling::Filling::empty` meets its contract: a walk at the bottom has passed no level. Assumes nothing.
+use borrow.Author.Needs.{needs}
+use Rattle.table.specs.Filling.{not-above-start}
+use Rattle.table.proofs.filling.Filling.empty.Statement.{statement}
+use Rattle.table.proofs.filling.Filling.empty.Tie as tie
+
+start-requires : tie.Need-start-requires
+start-requires c κs = search needs
+
+start-requires-2 : tie.Need-start-requires-2
+start-requires-2 c κs = search needs
+
+returns : tie.Need-returns
+returns c v h = record {
+  shell = not-above-start _ _ _ (c .before .start .ensures _);
+  flanges = not-above-start _ _ _ (c .start2 .ensures _);
+}
+
+pub empty-spec : {M : Type 1} → statement M
+empty-spec = tie.close (tie.spec start-requires start-requires-2 returns)
