@@ -1,0 +1,44 @@
+-- `tanktable::write_table` meets its contract: a survey that is decoded has its diameter and step within limits. Assumes nothing.
+use mathlib.Core.Path.{sym, _∙_}
+use Rattle.survey.specs.Accepted.{accepted}
+use Rattle.survey.specs.Decoded.{sound-decoded}
+use borrow.Author.Needs.{needs}
+use Rattle.tanktable.proofs.write_table.Statement.{statement}
+use Rattle.tanktable.proofs.write_table.Tie as tie
+
+decode-requires : tie.Need-decode-requires
+decode-requires c κs = search needs
+
+enum-known-decoded : tie.Need-enum-known-decoded
+enum-known-decoded c = search needs
+
+units-requires : tie.Need-units-requires
+units-requires c κs = search needs
+
+write-rows-requires : tie.Need-write-rows-requires
+write-rows-requires c κs =
+    let start = c .before .before .before .before .before .before .before .before in
+    let told = sound-decoded (start .args .survey .now) (sym (c .before .before .before .before .before .decode .ensures) ∙ c .before .before .before .decoded .given .1) in
+    let known = accepted (start .args .survey .now) (told .0) in
+    (rw (c .units .ensures, told .1) (known .dhHigh), rw (told .1) (known .stepLow), start .pre)
+
+enum-told : tie.Need-enum-told
+enum-told c = search needs
+
+returns : tie.Need-returns
+returns c = search needs
+
+returns-2 : tie.Need-returns-2
+returns-2 c = search needs
+
+pub write-table-spec : {M : Type 1} → statement M
+write-table-spec =
+    tie.close
+    (tie.spec
+    decode-requires
+    enum-known-decoded
+    units-requires
+    write-rows-requires
+    enum-told
+    returns
+    returns-2)

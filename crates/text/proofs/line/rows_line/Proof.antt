@@ -1,0 +1,40 @@
+-- `text::line::rows_line` meets its contract: its pieces are added to an empty line, with room to spare. Assumes nothing.
+use native.Mathlib.Omega.{arith}
+use borrow.Author.Needs.{needs}
+use Rattle.text.specs.Digits.{digits-at-most}
+use Rattle.text.specs.Held.{added-both, held}
+use Rattle.text.specs.Lines.{rowsLine}
+use Rattle.text.proofs.line.rows_line.Statement.{statement}
+use Rattle.text.proofs.line.rows_line.Tie as tie
+
+empty-requires : tie.Need-empty-requires
+empty-requires c κs = search needs
+
+slice-aggregate-with-bytes : tie.Need-slice-aggregate-with-bytes
+slice-aggregate-with-bytes c = search needs
+
+with-bytes-requires : tie.Need-with-bytes-requires
+with-bytes-requires c κs = search needs
+
+with-digits-requires : tie.Need-with-digits-requires
+with-digits-requires c κs = omega (arith, digits-at-most (c .before .before .before .args .n) (omega arith))
+
+with-byte-requires : tie.Need-with-byte-requires
+with-byte-requires c κs = omega (arith, digits-at-most (c .before .before .before .before .args .n) (omega arith))
+
+returns : tie.Need-returns
+unfolding rowsLine
+returns c =
+    held (c .before .before .before .before .empty .ensures)
+    (added-both (added-both (c .before .before .with-bytes .ensures) (c .before .with-digits .ensures)) (c .with-byte .ensures))
+
+pub rows-line-spec : {M : Type 1} → statement M
+rows-line-spec =
+    tie.close
+    (tie.spec
+    empty-requires
+    slice-aggregate-with-bytes
+    with-bytes-requires
+    with-digits-requires
+    with-byte-requires
+    returns)

@@ -1,0 +1,96 @@
+-- `text::read::with_decimals` meets its contract, by the length of what stands behind the whole part. Assumes nothing.
+use Prim.Native.Nat.{ℕ}
+use Prim.Native.Char.{code}
+use mathlib.Core.Path.{_≡_, refl}
+use mathlib.Core.List.{List, [], _∷_}
+use native.Mathlib.Omega.{arith}
+use borrow.Author.Needs.{needs}
+use borrow.Author.Tests.{eq-eqb, ne-eqb}
+use lib.Dec.{eqb}
+use lib.ListN.{length, getD}
+use Rattle.laws.specs.Order.{pick}
+use Rattle.text.specs.declared.read.Figure.{Figure}
+use Rattle.text.specs.declared.read.Figure.the-variants.{NotAFigure}
+use Rattle.text.specs.Figures.{pointed, decimals}
+use Rattle.text.proofs.read.with_decimals.Statement.{statement}
+use Rattle.text.proofs.read.with_decimals.Tie as tie
+
+-- the definition goes by the list, the code by its length
+abbrev byLength : ℕ → List ℕ → Figure
+byLength whole s =
+    pick (eqb (length s) 0) (pointed whole (code ".") (code "0") (code "0"))
+    (pick (eqb (length s) 2) (pointed whole (getD s 0 0) (getD s 1 0) (code "0"))
+    (pick (eqb (length s) 3) (pointed whole (getD s 0 0) (getD s 1 0) (getD s 2 0)) NotAFigure))
+
+decimals-by-length : (whole : ℕ) (s : List ℕ) → decimals whole s ≡ byLength whole s
+decimals-by-length whole [] = refl
+decimals-by-length whole (point ∷ []) = refl
+decimals-by-length whole (point ∷ tenth ∷ []) = refl
+decimals-by-length whole (point ∷ tenth ∷ hundredth ∷ []) = refl
+decimals-by-length whole (point ∷ tenth ∷ hundredth ∷ more ∷ s) =
+    let n = length (point ∷ tenth ∷ hundredth ∷ more ∷ s) in
+    rw (ne-eqb n 0 (omega arith), ne-eqb n 2 (omega arith), ne-eqb n 3 (omega arith))
+
+with-point-requires : tie.Need-with-point-requires
+with-point-requires c κs = search needs
+
+returns : tie.Need-returns
+returns c =
+    let a = c .before .before .before .args in
+    rw (decimals-by-length (a .whole) (a .s .now), eq-eqb (length (a .s .now)) 0 (c .before .if1 .taken)) (c .with-point .ensures)
+
+shared-slice-read-with-point : tie.Need-shared-slice-read-with-point
+shared-slice-read-with-point c = search needs
+
+shared-slice-read-with-point-2 : tie.Need-shared-slice-read-with-point-2
+shared-slice-read-with-point-2 c = search needs
+
+with-point-requires-2 : tie.Need-with-point-requires-2
+with-point-requires-2 c κs = search needs
+
+returns-2 : tie.Need-returns-2
+returns-2 c =
+    let a = c .before .before .before .before .before .before .args in
+    let n = length (a .s .now) in
+    rw (decimals-by-length (a .whole) (a .s .now), ne-eqb n 0 (omega arith), eq-eqb n 2 (omega arith)) (c .with-point2 .ensures)
+
+shared-slice-read-with-point-3 : tie.Need-shared-slice-read-with-point-3
+shared-slice-read-with-point-3 c = search needs
+
+shared-slice-read-with-point-4 : tie.Need-shared-slice-read-with-point-4
+shared-slice-read-with-point-4 c = search needs
+
+shared-slice-read-with-point-5 : tie.Need-shared-slice-read-with-point-5
+shared-slice-read-with-point-5 c = search needs
+
+with-point-requires-3 : tie.Need-with-point-requires-3
+with-point-requires-3 c κs = search needs
+
+returns-3 : tie.Need-returns-3
+returns-3 c =
+    let a = c .before .before .before .before .before .before .before .before .args in
+    let n = length (a .s .now) in
+    rw (decimals-by-length (a .whole) (a .s .now), ne-eqb n 0 (omega arith), ne-eqb n 2 (omega arith), eq-eqb n 3 (omega arith)) (c .with-point3 .ensures)
+
+returns-4 : tie.Need-returns-4
+returns-4 c =
+    let a = c .before .before .before .before .args in
+    let n = length (a .s .now) in
+    rw (decimals-by-length (a .whole) (a .s .now), ne-eqb n 0 (omega arith), ne-eqb n 2 (omega arith), ne-eqb n 3 (omega arith))
+
+pub with-decimals-spec : {M : Type 1} → statement M
+with-decimals-spec =
+    tie.close
+    (tie.spec
+    with-point-requires
+    returns
+    shared-slice-read-with-point
+    shared-slice-read-with-point-2
+    with-point-requires-2
+    returns-2
+    shared-slice-read-with-point-3
+    shared-slice-read-with-point-4
+    shared-slice-read-with-point-5
+    with-point-requires-3
+    returns-3
+    returns-4)

@@ -1,0 +1,17 @@
+-- The lines that the programs print, each with its line end. Assumes nothing.
+use Prim.Native.Nat.{ℕ}
+use mathlib.Core.List.{List, _++_}
+use Rattle.text.specs.Ascii.{ascii}
+use Rattle.text.specs.Digits.{digits, hundredths}
+
+unfoldable pub rowsLine : ℕ → List ℕ
+rowsLine n = ascii "rows " ++ digits n ++ ascii "\n"
+
+unfoldable pub rowLine : ℕ → ℕ → List ℕ
+rowLine h v = hundredths h ++ ascii " " ++ hundredths v ++ ascii "\n"
+
+unfoldable pub refusedLine : ℕ → ℕ → List ℕ
+refusedLine number place = ascii "refused " ++ digits number ++ ascii " " ++ digits place ++ ascii "\n"
+
+unfoldable pub figureLine : ℕ → List ℕ
+figureLine n = hundredths n ++ ascii "\n"
