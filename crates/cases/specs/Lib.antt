@@ -1,1 +1,3 @@
+-- Document 01's readings that are marked P, and its example survey.
+pub mod SixRows
 pub mod Readings

@@ -1,5 +1,6 @@
 -- Document 01, 'Readings off the stick': the readings marked P, as one table of what a rule gives and what the paper says, and the
--- proof that each line holds, which is a computation. Assumes nothing.
+-- proof that each line holds, which is a computation. And what the example survey comes to, as far as it computes: it is accepted by
+-- the survey's tests, and has six rows. Assumes nothing.
 use Prim.Native.Nat.{ℕ}
 use mathlib.Core.Path.{_≡_, refl}
 use mathlib.Core.List.{List, [], _∷_}
@@ -7,8 +8,19 @@ use lib.IntN.{ℤ, pos, negsuc}
 use Rattle.laws.specs.Root.{root}
 use Rattle.laws.specs.Nearest.{nearest}
 use Rattle.laws.specs.Half.{halfDifference}
+use Rattle.laws.specs.Sum.{sum}
 use Rattle.schedule.specs.Rows.{rowCount}
 use Rattle.geometry.specs.Circle.{chord, chordSquare}
+use Rattle.geometry.specs.Volume.{headsVolume}
+use Rattle.geometry.specs.declared.heads.HeadKind.the-variants.{HalfEllipsoid}
+use Rattle.refusal.specs.declared.Verdict.the-variants.{Sound}
+use Rattle.refusal.specs.Test.{verdict, items}
+use Rattle.survey.specs.Word.{word, signedWord}
+use Rattle.survey.specs.Dimensions.{courseLengths, weightedReadings, outerDiameter, wall, d1, d2}
+use Rattle.survey.specs.Tests.{placed, apart, sectionsPlaced, headerTests, courseTests, deadwoodTests, diameterFits, tests}
+use Rattle.table.specs.Share.{shareSize, share}
+use Rattle.table.specs.Rows.{rowsIn}
+use Rattle.cases.specs.SixRows.{sixRows}
 
 -- what the rule gives, and what the paper says; both with a sign
 pub record Reading : Type 0 where
@@ -35,10 +47,24 @@ readings =
     ∷ (halfDifference 50000 50003 readsSigned negsuc 1)
     ∷ (halfDifference 50003 50000 readsSigned pos 1)
     ∷ (nearest 5 2 reads 3)
+    ∷ (outerDiameter sixRows reads 51000)
+    ∷ (headsVolume HalfEllipsoid 260000 65000 130000 reads 230069)
+    ∷ (headsVolume HalfEllipsoid 260000 65000 260000 reads 460139)
+    ∷ (share 0 300 (pos 100) 151 readsSigned pos 50)
+    ∷ (share 0 300 (negsuc 0) 150 readsSigned negsuc 0)
     ∷ (rowCount 50000 10000 reads 6)
     ∷ (rowCount 50000 9999 reads 7)
     ∷ []
 
 pub readings-hold : Holds readings
-unfolding root chord chordSquare nearest rowCount
-readings-hold = (refl, (refl, (refl, (refl, (refl, (refl, (refl, (refl, tt))))))))
+unfolding root chord chordSquare nearest sum word courseLengths weightedReadings outerDiameter headsVolume shareSize share rowCount
+readings-hold = (refl, (refl, (refl, (refl, (refl, (refl, (refl, (refl, (refl, (refl, (refl, (refl, (refl, tt)))))))))))))
+
+-- a program that refuses everything, or gives another row count, answers the example survey falsely
+pub example-accepted : verdict (tests sixRows) ≡ Sound
+unfolding nearest sum word signedWord items courseLengths weightedReadings outerDiameter wall d1 d2 placed apart sectionsPlaced headerTests courseTests deadwoodTests diameterFits tests
+example-accepted = refl
+
+pub example-rows : rowsIn sixRows ≡ 6
+unfolding word rowCount
+example-rows = refl

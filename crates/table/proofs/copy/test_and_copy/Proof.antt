@@ -1,5 +1,6 @@
 -- `table::copy::test_and_copy` meets its contract: each return is the case that its tests lead to. Assumes nothing.
 use mathlib.Core.Path.{refl, sym, _∙_}
+use native.Mathlib.Omega.{arith}
 use borrow.Author.Tests.{le-leb, lt-leb}
 use lib.ListN.{length}
 use borrow.Author.Needs.{needs}
@@ -9,7 +10,7 @@ use Rattle.table.proofs.copy.test_and_copy.Tie as tie
 returns : tie.Need-returns
 returns c =
     let a = c .before .before .args in
-    (rw (lt-leb (a .rows) (length (a .table .now)) (c .if1 .taken)) refl, refl)
+    (rw (lt-leb (a .rows) (length (a .table .now)) (omega arith)) refl, refl)
 
 rows-tested-requires : tie.Need-rows-tested-requires
 rows-tested-requires c κs = search needs
@@ -26,7 +27,7 @@ copy-rows-requires c κs = search needs
 returns-2 : tie.Need-returns-2
 returns-2 c =
     let a = c .before .before .before .before .before .before .args in
-    (rw (le-leb (a .rows) (length (a .table .now)) (c .before .before .before .before .if1 .left)) (sym (c .before .v .given .1) ∙ c .before .before .before .rows-tested .ensures), refl)
+    (rw (le-leb (a .rows) (length (a .table .now)) (omega arith)) (sym (c .before .v .given .1) ∙ c .before .before .before .rows-tested .ensures), refl)
 
 same-length : tie.Need-same-length
 same-length c = search needs
@@ -34,7 +35,7 @@ same-length c = search needs
 returns-3 : tie.Need-returns-3
 returns-3 c =
     let a = c .before .before .before .before .before .before .before .before .before .args in
-    (rw (le-leb (a .rows) (length (a .table .now)) (c .before .before .before .before .before .before .before .if1 .left)) (sym (c .before .before .before .before .enum-told .given .1) ∙ c .before .before .before .before .before .before .rows-tested .ensures), c .before .before .copy-rows .ensures)
+    (rw (le-leb (a .rows) (length (a .table .now)) (omega arith)) (sym (c .before .before .before .before .enum-told .given .1) ∙ c .before .before .before .before .before .before .rows-tested .ensures), c .before .before .copy-rows .ensures)
 
 pub test-and-copy-spec : {M : Type 1} → statement M
 test-and-copy-spec =
