@@ -1,9 +1,10 @@
 #!/usr/bin/env bash
-# Runs tanktable on every example and compares what it prints with the text beside the survey; then what no file need hold: a file of
-# one byte too many, and one that never ends, of which no more is read than tells that it is too long.
+# Runs the programs against expected output: tanktable on every example, whose table stands beside it, on a file of one byte too many
+# and on one that never ends, of which no more is read than tells that it is too long; tanklookup on right and on wrong use.
 set -u
 cd "$(dirname "$0")/.." || exit 2
 program=target/bin/tanktable
+lookup=target/bin/tanklookup
 failures=0
 
 # what is shown, what was expected, what came
@@ -23,6 +24,24 @@ done
 same "65,537 bytes" "refused 1 0" "$(head -c 65537 /dev/zero | "$program")"
 same "a file that never ends" "refused 1 0" "$(timeout 10 "$program" </dev/zero)"
 same "an empty file" "refused 1 0" "$("$program" </dev/null)"
+
+# what tanklookup answers, on either stream
+asked() { "$lookup" "${@:2}" <"examples/$1.survey" 2>&1; }
+same "height 50.00 mm" "13.98" "$(asked six_rows litres 50.00)"
+same "height 50 mm" "13.98" "$(asked six_rows litres 50)"
+same "13.98 litres" "49.99" "$(asked six_rows height 13.98)"
+same "the full tank's litres" "196.35" "$(asked six_rows litres 500.0)"
+same "the full tank's lowest height" "499.99" "$(asked six_rows height 196.35)"
+same "a height above the tank" "refused 12 0" "$(asked six_rows litres 500.01)"
+same "more than the last row" "refused 13 0" "$(asked six_rows height 196.36)"
+same "nothing, in a tank whose first row is above zero" "0.00" "$(asked deadwood_and_flanges height 0.65)"
+same "a faulty survey" "refused 5 4" "$(asked diameter_too_small litres 50)"
+same "a table that falls" "refused 9 1" "$(asked falling_row height 1)"
+use="expected: tanklookup litres MM, or tanklookup height LITRES, with a survey on standard input; MM and LITRES are figures such as 1250 or 1250.75"
+for wrong in "" "litres" "depth 50" "litres 5." "litres 5.000" "litres -1" "litres 50 60" "height 99999999.99"; do
+    # shellcheck disable=SC2086
+    same "tanklookup $wrong" "$use" "$(asked six_rows $wrong)"
+done
 
 # Document 003 gives the volumes of its tank of 50 cubic metres in cubic metres with three decimals, from a simplified formula. At half
 # height and full that formula is exact, and our rows are its figures (25.078 and 50.155) to within their last digit, one litre. At

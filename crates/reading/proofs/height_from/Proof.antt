@@ -1,0 +1,68 @@
+-- `reading::height_from` meets its contract: by the verdict on the survey and its table. Assumes nothing.
+use mathlib.Core.Path.{_≡_, sym, _∙_, ap, ap₂}
+use mathlib.Core.List.{List}
+use Prim.Native.Nat.{ℕ}
+use lib.ListN.{take}
+use lib.Seq.{length-take-le}
+use Rattle.measure.specs.Quantity.{volumeUnits}
+use Rattle.survey.specs.Layout.{dh, step}
+use Rattle.lookup.specs.Answer.{heightAnswer}
+use Rattle.reading.specs.Answer.{heightBy, heightFrom}
+use Rattle.reading.specs.Made.{Ready}
+use borrow.Author.Needs.{needs}
+use Rattle.reading.proofs.height_from.Statement.{statement}
+use Rattle.reading.proofs.height_from.Tie as tie
+
+ready : (c : tie.After-enum-told) → Ready (c .before .before .before .before .before .args .survey .now) (c .before .before .before .tabulate .result)
+ready c = c .before .before .before .tabulate .ensures .ready (c .enum-told .given .1)
+
+tabulate-requires : tie.Need-tabulate-requires
+tabulate-requires c κs = search needs
+
+enum-known-verdict : tie.Need-enum-known-verdict
+enum-known-verdict c = search needs
+
+enum-told : tie.Need-enum-told
+enum-told c = search needs
+
+array-share-prefix-table : tie.Need-array-share-prefix-table
+array-share-prefix-table c = ready c .inside
+
+slice-aggregate-height-for : tie.Need-slice-aggregate-height-for
+slice-aggregate-height-for c =
+    let t = c .before .before .before .before .tabulate .result in
+    sym (length-take-le (t .rows) (t .table) (ready (c .before) .inside))
+
+height-for-requires : tie.Need-height-for-requires
+height-for-requires c κs = search needs
+
+returns : tie.Need-returns
+unfolding heightFrom
+returns c =
+    let a = c .before .before .before .before .before .before .args in
+    sym (ap (λ v. heightBy v (a .survey .now) (volumeUnits (a .volume))) (sym (c .before .before .before .before .tabulate .ensures .judged) ∙ c .before .verdict .given .1))
+
+returns-2 : tie.Need-returns-2
+unfolding heightFrom
+returns-2 c =
+    let a = c .before .before .before .before .before .before .before .args in
+    let s = a .survey .now in
+    let made = c .before .before .before .before .before .tabulate .result in
+    let found = ready (c .before .before) in
+    c .height-for .ensures .0
+    ∙ ap₂ (λ (d t : ℕ). heightAnswer d t (take (made .rows) (made .table)) (volumeUnits (a .volume))) (found .dh-is) (found .step-is)
+    ∙ ap (λ (rows : List ℕ). heightAnswer (dh s) (step s) rows (volumeUnits (a .volume))) (found .front)
+    ∙ sym (ap (λ v. heightBy v s (volumeUnits (a .volume))) (sym (c .before .before .before .before .before .tabulate .ensures .judged) ∙ c .before .before .enum-told .given .1))
+
+pub height-from-spec : {M : Type 1} → statement M
+height-from-spec =
+    tie.close
+    (tie.spec
+    tabulate-requires
+    enum-known-verdict
+    enum-told
+    array-share-prefix-table
+    slice-aggregate-height-for
+    height-for-requires
+    returns
+    returns-2)

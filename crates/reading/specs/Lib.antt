@@ -1,0 +1,3 @@
+-- Both lookups straight from a survey.
+pub mod Answer
+pub mod Made

@@ -1,0 +1,77 @@
+// Both lookups straight from a survey: its table is made, and then looked up in.
+ghost use mathlib.Core.Path.{_≡_};
+ghost use Rattle.measure.specs.Quantity.{dipUnits, volumeUnits};
+ghost use Rattle.reading.specs.Answer.{litresFrom, heightFrom};
+ghost use Rattle.reading.specs.Made.{Tabulated};
+use lookup::height::HeightAnswer;
+use lookup::height::height_for;
+use lookup::litres::LitresAnswer;
+use lookup::litres::litres_at;
+use measure::dip_height::DipHeight;
+use measure::volume::Volume;
+use refusal::Verdict;
+use survey::layout::DH;
+use survey::layout::STEP;
+use survey::word::word;
+use table::make::Made;
+use table::make::make_table;
+
+// A survey's table with what a lookup takes beside it, or the refusal.
+struct Tabled {
+    verdict: Verdict,
+    dh: u32,
+    step: u32,
+    rows: usize,
+    table: [u32; 5001],
+}
+
+fn tabulate(survey: &[u8]) -> Tabled
+    ensures { λ r. ⌜ Tabulated (now (survey .entry)) r ⌝ }
+{
+    let mut table = [0u32; 5001];
+    let made = make_table(survey, &mut table);
+    match made {
+        Made::Refused(r) => Tabled {
+            verdict: Verdict::Refused(r),
+            dh: 0,
+            step: 0,
+            rows: 0,
+            table,
+        },
+        Made::Table(_, _, rows) => Tabled {
+            verdict: Verdict::Sound,
+            dh: word(survey, DH),
+            step: word(survey, STEP),
+            rows: rows as usize,
+            table,
+        },
+    }
+}
+
+// The litres at a dip height of the surveyed tank, or the first refusal: the survey's, the table's or the lookup's.
+pub fn litres_from(survey: &[u8], height: DipHeight) -> LitresAnswer
+    ensures { λ r. ⌜ r ≡ litresFrom (now (survey .entry)) (dipUnits height) ⌝ }
+{
+    let t = tabulate(survey);
+    let verdict = t.verdict;
+    let table = t.table;
+    let rows = t.rows;
+    match verdict {
+        Verdict::Refused(r) => LitresAnswer::Refused(r),
+        Verdict::Sound => litres_at(t.dh, t.step, &table[..rows], height),
+    }
+}
+
+// The lowest dip height at which the surveyed tank holds a volume, or the first refusal.
+pub fn height_from(survey: &[u8], volume: Volume) -> HeightAnswer
+    ensures { λ r. ⌜ r ≡ heightFrom (now (survey .entry)) (volumeUnits volume) ⌝ }
+{
+    let t = tabulate(survey);
+    let verdict = t.verdict;
+    let table = t.table;
+    let rows = t.rows;
+    match verdict {
+        Verdict::Refused(r) => HeightAnswer::Refused(r),
+        Verdict::Sound => height_for(t.dh, t.step, &table[..rows], volume),
+    }
+}
