@@ -1,6 +1,5 @@
 -- A sum of two signed numbers of at most 61 bits fits 64, as the code has it: its operands and its result pass through their bits.
 -- Assumes nothing.
-use mathlib.Core.Path.{_≡_}
 use Prim.Native.Nat.{_^_, _≤_}
 use native.Mathlib.Omega.{arith}
 use lib.IntN.{ℤ, _+ℤ_}

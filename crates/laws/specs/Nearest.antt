@@ -1,9 +1,9 @@
 -- `nearest a b` is the whole number nearest to a / b, halves up. Everything above knows it by the laws below: it lies within
 -- half of the quotient, it never falls as a grows, and it is exact on a multiple. Only `nearest-of-rest` says where a half
 -- goes. Assumes nothing.
-use Prim.Native.Nat.{ℕ, zero, suc, _+_, _*_, _/_, _%_, _≤_, _<_}
-use mathlib.Core.Path.{_≡_, refl, sym, _∙_, ap, subst}
-use native.Mathlib.Nat.{le-trans, mul-div-le, lt-mul-div-succ, mul-pos, le-div-iff-mul-le, div-mul-le-self, div-eq-of-lt-le, mul-le-mul-left, add-le-add, le-refl, mul-comm, mul-left-comm, le-antisymm, le-of-eq, mul-assoc, zero-lt-suc}
+use Prim.Native.Nat.{ℕ, _+_, _*_, _/_, _≤_, _<_}
+use mathlib.Core.Path.{_≡_, _∙_, subst}
+use native.Mathlib.Nat.{le-trans, lt-mul-div-succ, le-div-iff-mul-le, div-mul-le-self, div-eq-of-lt-le, le-of-eq}
 use native.Mathlib.Omega.{arith}
 use lib.Dec.{leb}
 use Rattle.laws.specs.Order.{by-order, pick, pick-le, pick-gt}
@@ -40,9 +40,6 @@ nearest-of-multiple q b h =
     subst (λ (a : ℕ). nearest a b ≡ q) {x = q * b + 0} {y = q * b} (omega arith)
     (nearest-of-rest q 0 b h ∙ pick-gt (q + 1) q h)
 
--- between two multiples the nearest is between them too
+-- below a multiple the nearest is at most that
 pub nearest-at-most : (a q b : ℕ) → 0 < b → a ≤ q * b → nearest a b ≤ q
 nearest-at-most a q b h l = le-trans (nearest-mono a (q * b) b h l) (le-of-eq (nearest-of-multiple q b h))
-
-pub nearest-at-least : (a q b : ℕ) → 0 < b → q * b ≤ a → q ≤ nearest a b
-nearest-at-least a q b h l = le-trans (le-of-eq (sym (nearest-of-multiple q b h))) (nearest-mono (q * b) a b h l)

@@ -1,6 +1,6 @@
 -- Signed numbers: a size with a sign put on, finite sums, and the sizes by which a sum, a difference or a floor half is seen to fit
 -- its type. `mag` is the size of a number, less 1 below zero. Assumes nothing.
-use Prim.Native.Nat.{ℕ, zero, suc, _+_, _*_, _-_, _/_, _≤_, _<_}
+use Prim.Native.Nat.{ℕ, zero, suc, _+_, _*_, _-_, _≤_, _<_}
 use mathlib.Core.Path.{_≡_, refl, sym, _∙_, ap}
 use mathlib.Core.Bool.{true, false}
 use native.Mathlib.Nat.{add-zero, div-le-self, le-refl, le-trans, suc-mul}

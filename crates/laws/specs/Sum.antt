@@ -1,8 +1,8 @@
--- Finite sums: `sum n f` is f 0 + f 1 + .. + f (n - 1). Their laws: congruence, comparison, addition, scaling, splitting,
+-- Finite sums: `sum n f` is f 0 + f 1 + .. + f (n - 1). Their laws: comparison, addition, scaling, splitting,
 -- telescoping, summing by blocks, and bounds. Assumes nothing.
 use Prim.Native.Nat.{ℕ, zero, suc, _+_, _*_, _≤_, _<_}
-use mathlib.Core.Path.{_≡_, refl, sym, _∙_, ap, ap₂}
-use native.Mathlib.Nat.{le-refl, le-step, le-trans, lt-suc-self, add-le-add, add-assoc, add-zero, add-suc, mul-zero, mul-add, zero-mul, suc-mul, le-antisymm, le-of-eq, zero-add}
+use mathlib.Core.Path.{_≡_, refl, sym, _∙_, ap}
+use native.Mathlib.Nat.{le-refl, le-step, lt-suc-self, add-le-add, add-assoc, add-zero, add-suc, mul-zero, mul-add, zero-mul, suc-mul, le-antisymm, le-of-eq}
 use native.Mathlib.Omega.{arith}
 
 unfoldable pub sum : ℕ → (ℕ → ℕ) → ℕ
@@ -22,9 +22,6 @@ pub sum-le : (n : ℕ) (f g : ℕ → ℕ) → ((k : ℕ) → k < n → f k ≤ 
 unfolding sum
 sum-le zero f g h = le-refl 0
 sum-le (suc n) f g h = add-le-add (sum-le n f g (λ k l. h k (le-step l))) (h n (lt-suc-self n))
-
-pub sum-cong : (n : ℕ) (f g : ℕ → ℕ) → ((k : ℕ) → k < n → f k ≡ g k) → sum n f ≡ sum n g
-sum-cong n f g h = le-antisymm (sum-le n f g (λ k l. le-of-eq (h k l))) (sum-le n g f (λ k l. le-of-eq (sym (h k l))))
 
 pub sum-add : (n : ℕ) (f g : ℕ → ℕ) → sum n (λ k. f k + g k) ≡ sum n f + sum n g
 unfolding sum
@@ -46,9 +43,6 @@ pub sum-split : (m n : ℕ) (f : ℕ → ℕ) → sum (m + n) f ≡ sum m f + su
 unfolding sum
 sum-split m zero f = rw (add-zero, add-zero)
 sum-split m (suc n) f = rw add-suc (ap (λ (s : ℕ). s + f (m + n)) (sum-split m n f) ∙ add-assoc (sum m f) (sum n (λ k. f (m + k))) (f (m + n)))
-
-pub sum-more : (m n : ℕ) (f : ℕ → ℕ) → sum m f ≤ sum (m + n) f
-sum-more m n f = rw sum-split (omega arith)
 
 -- what rises by at least its term in each step rises by at least the sum, and likewise for at most
 pub sum-below : (n : ℕ) (f g : ℕ → ℕ) → ((k : ℕ) → k < n → g k + f k ≤ g (suc k)) → g 0 + sum n f ≤ g n

@@ -7,7 +7,6 @@ use native.Mathlib.Nat.{le-refl, lt-of-le-of-lt}
 use native.Mathlib.Omega.{arith}
 use borrow.Author.Tests.{le-leb, lt-leb, leb-true, leb-false}
 use lib.Dec.{leb}
-use Rattle.laws.specs.Order.{by-order}
 use Rattle.laws.specs.Search.{least, least-holds, least-first, least-unique, least-at-most}
 use Rattle.lookup.specs.Table.{Sound}
 use Rattle.lookup.specs.Litres.{litres, litres-mono}

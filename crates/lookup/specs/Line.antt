@@ -1,10 +1,10 @@
 -- The value on the straight line between two neighbour rows, to the nearest v: the value itself is rounded, not the increment.
--- Its laws: at the lower row it is that row, it stays between the rows, and it never falls. Assumes nothing.
+-- Its laws: at the lower row it is that row, it does not pass the upper row, and it never falls. Assumes nothing.
 use Prim.Native.Nat.{ℕ, _+_, _*_, _-_, _≤_, _<_}
 use mathlib.Core.Path.{_≡_, _∙_, ap}
 use native.Mathlib.Nat.{mul-le-mul-right}
 use native.Mathlib.Omega.{arith}
-use Rattle.laws.specs.Nearest.{nearest, nearest-mono, nearest-of-multiple, nearest-at-most, nearest-at-least}
+use Rattle.laws.specs.Nearest.{nearest, nearest-mono, nearest-of-multiple, nearest-at-most}
 
 -- between rows a and b, x above the lower of them, with the rows so far apart
 unfoldable pub lineValue : (a b x gap : ℕ) → ℕ
@@ -21,14 +21,6 @@ module _ (a b gap : ℕ) (some : 0 < gap) where
   line-at-lower =
       let all : a * gap + b * 0 ≡ a * gap = omega arith in
       by-both a b 0 gap gap (omega arith) ∙ rw all (nearest-of-multiple a gap some)
-
-  pub line-at-least : a ≤ b → (x : ℕ) → x ≤ gap → a ≤ lineValue a b x gap
-  line-at-least rises x l =
-      rw (by-both a b x (gap - x) gap (omega arith))
-      (nearest-at-least _ a gap some (spread (gap - x) (omega arith) (mul-le-mul-right x rises)))
-    where
-      spread : (y : ℕ) → x + y ≡ gap → a * x ≤ b * x → a * gap ≤ a * y + b * x
-      spread y e m = rw (← e) (omega arith)
 
   pub line-at-most : a ≤ b → (x : ℕ) → x ≤ gap → lineValue a b x gap ≤ b
   line-at-most rises x l =

@@ -1,9 +1,9 @@
 -- Litres at a height, on a sound table: the row itself, or on the straight line between the neighbour rows, nearest v. And its
 -- laws: at each row's height it is that row, between two rows it is on their line, and it never falls. Assumes nothing.
 use Prim.Native.Nat.{ℕ, zero, suc, _+_, _*_, _-_, _/_, _≤_, _<_}
-use mathlib.Core.Path.{_≡_, refl, sym, _∙_, ap}
+use mathlib.Core.Path.{_≡_, refl, sym, _∙_}
 use mathlib.Core.List.{List}
-use native.Mathlib.Nat.{le-refl, le-trans, mul-div-cancel, div-mul-le-self, div-eq-of-lt-le, le-of-lt}
+use native.Mathlib.Nat.{le-refl, le-trans, mul-div-cancel, div-mul-le-self, div-eq-of-lt-le}
 use native.Mathlib.Numerals.{add-one}
 use native.Mathlib.Omega.{arith}
 use borrow.Author.Tests.{eq-eqb, eqb-true}

@@ -1,9 +1,9 @@
 -- The corrected height (document 01, 'Dimensions'; document 001, A.22): H + (D - DH)/2, the half rounded down, then held within
 -- 0 to D. And its laws: what it is by which diameter is larger, that it stays within D, that it never falls. Assumes nothing.
-use Prim.Native.Nat.{ℕ, suc, _+_, _-_, _/_, _≤_, _<_, min}
-use mathlib.Core.Path.{_≡_, refl, _∙_, ap}
+use Prim.Native.Nat.{ℕ, suc, _+_, _-_, _/_, _≤_, min}
+use mathlib.Core.Path.{_≡_, _∙_, ap}
 use native.Mathlib.Omega.{arith}
-use lib.IntN.{ℤ, pos, negsuc, subℕ, _+ℤ_}
+use lib.IntN.{ℤ, pos, negsuc, _+ℤ_}
 use Rattle.laws.specs.Order.{by-order}
 use Rattle.laws.specs.Half.{halfDifference, half-up, half-down, difference-up, difference-down}
 

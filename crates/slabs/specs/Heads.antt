@@ -1,10 +1,9 @@
 -- The slabs of a pair of heads keep within 1 v of its volume, whatever their count. Both of the slabs' values of pi lie below
 -- the volume's 355/113: what a covering slab lacks by that is below half a v at the largest head.
-use Prim.Native.Nat.{ℕ, _*_, _-_, _≤_, _<_}
-use mathlib.Core.Path.{_≡_, refl}
-use native.Mathlib.Nat.{le-refl, le-trans, mul-le-mul, mul-le-mul-left, mul-assoc}
+use Prim.Native.Nat.{ℕ, _*_, _≤_, _<_}
+use native.Mathlib.Nat.{le-refl, le-trans, mul-le-mul, mul-le-mul-left}
 use native.Mathlib.Omega.{arith}
-use Rattle.laws.specs.Nearest.{nearest, nearest-above, nearest-below}
+use Rattle.laws.specs.Nearest.{nearest-above, nearest-below}
 use Rattle.geometry.specs.declared.heads.HeadKind.{HeadKind}
 use Rattle.geometry.specs.declared.heads.HeadKind.the-variants.{Flat, HalfEllipsoid}
 use Rattle.geometry.specs.Volume.{headsVolume, cubicPerV}

@@ -4,7 +4,7 @@ use Prim.Native.Nat.{ℕ, _*_, _≤_, _<_}
 use mathlib.Core.Path.{_≡_, refl, sym, _∙_, ap}
 use mathlib.Core.List.{List}
 use native.Mathlib.Omega.{arith}
-use Rattle.measure.specs.Diameter.{smallest, largest}
+use Rattle.measure.specs.Diameter.{largest}
 use Rattle.measure.specs.Quantity.{diameterUnits}
 use Rattle.measure.specs.Correction.{corrected-at-most, corrected-mono}
 use Rattle.geometry.specs.declared.circle.Walk.{Walk}

@@ -1,14 +1,14 @@
 -- What the call keeps: net rows fit their cells, rows in memory are the survey's net rows, and condition 3 holds of every row that
 -- is written. Assumes nothing.
-use Prim.Native.Nat.{ℕ, _+_, _^_, _≤_, _<_}
-use mathlib.Core.Path.{_≡_, refl, sym, _∙_, ap, ap₂}
+use Prim.Native.Nat.{ℕ, _^_, _<_}
+use mathlib.Core.Path.{_≡_, refl, sym, _∙_, ap}
 use mathlib.Core.Bool.{true}
 use mathlib.Core.List.{List, _++_}
 use native.Mathlib.Omega.{arith}
 use lib.Dec.{leb}
 use lib.IntN.{ℤ, pos, negsuc, negℤ, natAbs, _+ℤ_, _-ℤ_, -ℤ-+ℤ-cancel}
 use lib.ListN.{length, getD, drop, List·getD-append}
-use lib.Signed.{mag, nonNeg}
+use lib.Signed.{nonNeg}
 use Rattle.laws.specs.Search.{true-not-false}
 use Rattle.laws.specs.Signed.{sum-size, negated-size, natAbs-at-most}
 use Rattle.laws.specs.Fill.{rowsOf, length-rowsOf, getD-rowsOf, rowsOf-agree}

@@ -1,6 +1,6 @@
 -- The rows of a survey's table (document 01, 'Volume'): gross at a dip height, all deadwood shares there, and the net row.
 -- Assumes nothing.
-use Prim.Native.Nat.{ℕ, _≤_}
+use Prim.Native.Nat.{ℕ}
 use mathlib.Core.List.{List}
 use lib.IntN.{ℤ, pos, natAbs, _-ℤ_}
 use Rattle.laws.specs.Signed.{sumℤ}

@@ -1,5 +1,4 @@
 -- `schedule::row_count` meets its contract: its test is that of the definition. Assumes nothing.
-use mathlib.Core.Path.{sym}
 use native.Mathlib.Nat.{div-le-self}
 use native.Mathlib.Omega.{arith}
 use borrow.Author.Needs.{needs}

@@ -1,6 +1,6 @@
 -- `measure::shell_height::corrected_units` meets its contract: a 32-bit height and a half difference add up within 64 bits.
 -- Assumes nothing.
-use mathlib.Core.Path.{_≡_, _∙_, ap, subst}
+use mathlib.Core.Path.{_≡_, _∙_, ap}
 use Prim.Native.Nat.{ℕ, _^_, _<_}
 use native.Mathlib.Omega.{arith}
 use borrow.Author.Needs.{needs}

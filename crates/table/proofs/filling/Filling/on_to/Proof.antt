@@ -10,7 +10,6 @@ use Rattle.measure.specs.Quantity.{diameterUnits, shellHeight, shellUnits, dipU
 use Rattle.measure.specs.Correction.{correctedHeight, corrected-at-most}
 use Rattle.geometry.specs.declared.circle.Walk.{Walk}
 use Rattle.geometry.specs.Walk.{walkAt}
-use Rattle.table.specs.declared.filling.Filling.{Filling}
 use Rattle.table.specs.Filling.{NotAbove}
 use Rattle.table.proofs.filling.Filling.on_to.Statement.{statement}
 use Rattle.table.proofs.filling.Filling.on_to.Tie as tie
