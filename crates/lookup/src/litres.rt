@@ -17,7 +17,7 @@ pub enum LitresAnswer {
 }
 
 // On a sound table, at a height within the tank.
-pub fn litres_inside(dh: u32, step: u32, table: &[u32], h: u32) -> u32
+pub(crate) fn litres_inside(dh: u32, step: u32, table: &[u32], h: u32) -> u32
     requires { ⌜ Sound dh step (now table) × (h ≤ dh) ⌝ }
     ensures { λ r. ⌜ r ≡ litres dh step (now (table .entry)) h ⌝ }
 {

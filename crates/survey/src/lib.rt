@@ -1,10 +1,10 @@
 // The survey file: its words, the tests that it must pass, the dimensions made of it, and the survey that a sound file holds.
-pub mod courses;
-pub mod deadwood;
+mod courses;
+mod deadwood;
 pub mod decode;
-pub mod dimensions;
+mod dimensions;
 pub mod layout;
-pub mod limits;
-pub mod sections;
-pub mod tests;
+mod limits;
+mod sections;
+mod tests;
 pub mod word;

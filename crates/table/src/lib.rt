@@ -1,8 +1,8 @@
 // From a survey to its capacity table.
-pub mod copy;
-pub mod deadwood;
-pub mod filling;
+mod copy;
+mod deadwood;
+mod filling;
 pub mod make;
-pub mod rows;
-pub mod share;
-pub mod tests;
+mod rows;
+mod share;
+mod tests;
