@@ -1,7 +1,7 @@
 -- Signed numbers: a size with a sign put on, finite sums, and the sizes by which a sum, a difference or a floor half is seen to fit
 -- its type. `mag` is the size of a number, less 1 below zero. Assumes nothing.
 use Prim.Native.Nat.{ℕ, zero, suc, _+_, _*_, _-_, _≤_, _<_}
-use mathlib.Core.Path.{_≡_, refl, sym, _∙_, ap}
+use mathlib.Core.Path.{_≡_, refl, sym, _∙_, ap, ap₂}
 use mathlib.Core.Bool.{true, false}
 use native.Mathlib.Nat.{add-zero, div-le-self, le-refl, le-trans, suc-mul}
 use native.Mathlib.Omega.{arith}
@@ -74,6 +74,12 @@ unfolding sumℤ
 sumℤ-size zero limit f h = omega arith
 sumℤ-size (suc n) limit f h =
     omega (arith, sum-size (sumℤ n f) (f n), sumℤ-size n limit f (λ i l. h i (omega arith)), h n (omega arith), suc-mul n (limit + 1))
+
+-- sums of equal terms are equal
+pub sumℤ-agree : (n : ℕ) (f g : ℕ → ℤ) → ((i : ℕ) → i < n → f i ≡ g i) → sumℤ n f ≡ sumℤ n g
+unfolding sumℤ
+sumℤ-agree zero f g same = refl
+sumℤ-agree (suc n) f g same = ap₂ _+ℤ_ (sumℤ-agree n f g (λ i l. same i (omega arith))) (same n (omega arith))
 
 -- what a test for a sign tells
 pub negative : (z : ℤ) → ltZ z (pos 0) ≡ true → (n : ℕ) × (z ≡ negsuc n)

@@ -24,7 +24,7 @@ use Rattle.survey.specs.Decoded.{surveyOf}
 use Rattle.table.specs.Rows.{tankOf, grossAt, sharesAt, netAt, rowsIn, heightOf, netRow, cellOf}
 use Rattle.table.specs.Filling.{limits, gross-small}
 use Rattle.table.specs.Deadwood.{shares-small}
-use Rattle.table.specs.Tests.{rowTests, fallTest, belowZeroTest, tests-agree}
+use Rattle.table.specs.Tests.{keepsUp, rowTests, fallTest, belowZeroTest, tests-agree}
 use Rattle.table.specs.Cell.{netOf, cellIn, leftBy}
 use Rattle.table.specs.Answer.{tableTests, verdictOn, answerBy, made, tableLeft, Condition3At, Condition3Of}
 
@@ -64,13 +64,22 @@ front-left Sound f n rest table =
     ap (λ l. l ++ drop n table) (rowsOf-agree (cellIn (rowsOf f n ++ rest)) (λ i. natAbs (f i)) n (λ i l. ap natAbs (front-row f n rest i l)))
 front-left (Refused r) f n rest table = refl
 
--- of a table that is made, no net row is below zero
-not-below : (s : List ℕ) (cells : ℕ) → verdict (tableTests s cells) ≡ Sound → (i : ℕ) → i < rowsIn s → nonNeg (netRow s i) ≡ true
+-- of a table that is made, no net row is below the row before ..
+rows-pass : (s : List ℕ) (cells : ℕ) → verdict (tableTests s cells) ≡ Sound
+    → (verdict (items (rowsIn s) (fallTest (netRow s))) ≡ Sound) × (verdict (items (rowsIn s) (belowZeroTest (netRow s))) ≡ Sound)
 unfolding tableTests rowTests
-not-below s cells e i l =
+rows-pass s cells e =
     let rows = sound-pick (leb (rowsIn s) cells) (verdict (rowTests (netRow s) (rowsIn s))) (refusal 8 0) e .1 in
-    let below = sound-append (items (rowsIn s) (fallTest (netRow s))) (items (rowsIn s) (belowZeroTest (netRow s))) rows .1 in
-    sound-all (belowZeroTest (netRow s) i) (sound-items (rowsIn s) (belowZeroTest (netRow s)) below i l) .0
+    sound-append (items (rowsIn s) (fallTest (netRow s))) (items (rowsIn s) (belowZeroTest (netRow s))) rows
+
+pub none-falls : (s : List ℕ) (cells : ℕ) → verdict (tableTests s cells) ≡ Sound → (i : ℕ) → i < rowsIn s → keepsUp (netRow s) i ≡ true
+none-falls s cells e i l =
+    sound-all (fallTest (netRow s) i) (sound-items (rowsIn s) (fallTest (netRow s)) (rows-pass s cells e .0) i l) .0
+
+-- .. and none below zero
+pub none-below-zero : (s : List ℕ) (cells : ℕ) → verdict (tableTests s cells) ≡ Sound → (i : ℕ) → i < rowsIn s → nonNeg (netRow s i) ≡ true
+none-below-zero s cells e i l =
+    sound-all (belowZeroTest (netRow s) i) (sound-items (rowsIn s) (belowZeroTest (netRow s)) (rows-pass s cells e .1) i l) .0
 
 natural-size : (z : ℤ) → nonNeg z ≡ true → pos (natAbs z) ≡ z
 natural-size (pos n) e = refl
@@ -101,5 +110,5 @@ condition3-left s table = by-verdict (verdictOn s (length table)) refl
         let both = sound-after (verdict (tests s)) (verdict (tableTests s (length table))) (sym (verdict-append (tests s) (tableTests s (length table))) ∙ e) in
         row-holds s (rowsOf (cellOf s) (rowsIn s) ++ drop (rowsIn s) table) i (accepted s (both .0))
         (ap pos (List·getD-append (rowsOf (cellOf s) (rowsIn s)) (drop (rowsIn s) table) 0 i (omega (arith, length-rowsOf (cellOf s) (rowsIn s))) ∙ getD-rowsOf (cellOf s) 0 (rowsIn s) i l)
-        ∙ natural-size (netRow s i) (not-below s (length table) (both .1) i l))
+        ∙ natural-size (netRow s i) (none-below-zero s (length table) (both .1) i l))
     by-verdict (Refused r) e = tt

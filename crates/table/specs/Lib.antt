@@ -3,6 +3,7 @@
 pub mod Share
 pub mod Rows
 pub mod Filling
+pub mod Items
 pub mod Deadwood
 pub mod Tests
 pub mod Cell
