@@ -1,3 +1,4 @@
 -- Both lookups straight from a survey.
 pub mod Answer
 pub mod Made
+pub mod Own
