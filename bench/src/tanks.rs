@@ -1,0 +1,90 @@
+//! The surveys whose tables are timed.
+
+use reference::deadwood::Deadwood;
+use reference::generate::plan::{Layout, Plan};
+use reference::heights::DipHeight;
+use reference::survey::Course;
+
+const THICKNESS: u32 = 500;
+
+/// What the largest table is made of: every count and length at its limit.
+pub fn largest(dh: u32, step: u32) -> Vec<u8> {
+    survey(Size {
+        dh,
+        step,
+        l1: 3_000_000,
+        l2: 20_000,
+        l3: 250_000,
+        courses: 40,
+        deadwood: 64,
+    })
+}
+
+/// A tank such as stands at a filling station.
+pub fn common() -> Vec<u8> {
+    survey(Size {
+        dh: 260_000,
+        step: 1_000,
+        l1: 900_000,
+        l2: 4_000,
+        l3: 65_000,
+        courses: 6,
+        deadwood: 4,
+    })
+}
+
+struct Size {
+    dh: u32,
+    step: u32,
+    l1: u32,
+    l2: u32,
+    l3: u32,
+    courses: u32,
+    deadwood: u32,
+}
+
+/// A survey with half-ellipsoid heads and D1 and D2 near DH.
+fn survey(size: Size) -> Vec<u8> {
+    let outer = size.dh + 2 * THICKNESS;
+    // rounded down, so that no diameter passes its limit
+    let circumference = (u64::from(outer) * 355 / 113) as u32;
+    let course = Course {
+        first: circumference,
+        second: circumference,
+        length: size.l1 / size.courses,
+        thickness: THICKNESS,
+    };
+    let plan = Plan {
+        kind: 1,
+        dh: size.dh,
+        l1: size.l1,
+        left: circumference,
+        right: circumference,
+        l2: size.l2,
+        l3: size.l3,
+        step: size.step,
+        courses: vec![course; size.courses as usize],
+        deadwood: (0..size.deadwood)
+            .map(|item| fitting(size.dh, item))
+            .collect(),
+        layout: Layout {
+            deadwood_first: false,
+            gap_before: 0,
+            gap_between: 0,
+            gap_after: 0,
+            empty_offset: 0,
+            filler: 0,
+        },
+    };
+    plan.encode()
+}
+
+/// A small fitting in the wide part of the tank, so that no row falls.
+fn fitting(dh: u32, item: u32) -> Deadwood {
+    let low = dh / 4 + item * (dh / 400);
+    Deadwood {
+        low: DipHeight(low),
+        high: DipHeight(low + dh / 8),
+        volume: 200,
+    }
+}

@@ -1,0 +1,31 @@
+-- `capi::milechime_height` meets its contract: the numbers of the library's own answer, and what it says of the height. Assumes nothing.
+use mathlib.Core.Path.{_∙_, ap}
+use borrow.Author.Needs.{needs}
+use Rattle.lookup.specs.Answer.{heightAnswer}
+use Rattle.measure.specs.Quantity.{volumeUnits}
+use Rattle.capi.specs.Numbers.{heightNumbers}
+use Rattle.capi.specs.Reached.{lowest-answered}
+use Rattle.capi.proofs.milechime_height.Statement.{statement}
+use Rattle.capi.proofs.milechime_height.Tie as tie
+
+of-requires : tie.Need-of-requires
+of-requires c κs = search needs
+
+height-for-requires : tie.Need-height-for-requires
+height-for-requires c κs = search needs
+
+height-numbers-requires : tie.Need-height-numbers-requires
+height-numbers-requires c κs = search needs
+
+returns : tie.Need-returns
+returns c =
+    let a = c .before .before .before .before .args in
+    let told = c .before .height-for .ensures in
+    let asked = ap volumeUnits (c .before .before .of .ensures) in
+    let answer = told .0 ∙ ap (heightAnswer (a .dh) (a .step) (a .table .now)) asked in
+    let numbers = c .height-numbers .ensures ∙ ap heightNumbers answer in
+    (numbers, rw numbers (lowest-answered (a .dh) (a .step) (a .table .now) (a .volume) (rw (answer, asked) at (told .1))))
+
+pub milechime-height-spec : {M : Type 1} → statement M
+milechime-height-spec =
+    tie.close (tie.spec of-requires height-for-requires height-numbers-requires returns)

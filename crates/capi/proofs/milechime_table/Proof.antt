@@ -1,0 +1,29 @@
+-- `capi::milechime_table` meets its contract: the numbers of the library's own answer, the table as the library leaves it, and
+-- condition 3 of the rows counted. Assumes nothing.
+use mathlib.Core.Path.{_∙_, ap}
+use lib.ListN.{length}
+use borrow.Author.Needs.{needs}
+use Rattle.capi.specs.Numbers.{tableNumbers}
+use Rattle.capi.specs.Slabs.{counted}
+use Rattle.capi.proofs.milechime_table.Statement.{statement}
+use Rattle.capi.proofs.milechime_table.Tie as tie
+
+make-table-requires : tie.Need-make-table-requires
+make-table-requires c κs = search needs
+
+table-numbers-requires : tie.Need-table-numbers-requires
+table-numbers-requires c κs = search needs
+
+same-length : tie.Need-same-length
+same-length c = search needs
+
+returns : tie.Need-returns
+returns c =
+    let a = c .before .before .before .before .before .before .before .args in
+    let told = c .before .before .before .make-table .ensures in
+    let numbers = c .table-numbers .ensures ∙ ap tableNumbers (told .0) in
+    (numbers, (told .1 .0, rw numbers (counted (a .survey .now) (length (a .table .now)) _ (rw (told .0) at (told .1 .1)))))
+
+pub milechime-table-spec : {M : Type 1} → statement M
+milechime-table-spec =
+    tie.close (tie.spec make-table-requires table-numbers-requires same-length returns)

@@ -1,0 +1,24 @@
+-- Each answer as plain numbers: the refusal's number and place, both 0 where nothing is refused, and the figures, all 0 in a
+-- refusal. Assumes nothing.
+use Rattle.measure.specs.Quantity.{diameterUnits, dipUnits, volumeUnits}
+use Rattle.table.specs.declared.make.Made.{Made}
+use Rattle.table.specs.declared.make.Made.the-variants as made
+use Rattle.lookup.specs.declared.litres.LitresAnswer.{LitresAnswer}
+use Rattle.lookup.specs.declared.litres.LitresAnswer.the-variants as litres
+use Rattle.lookup.specs.declared.height.HeightAnswer.{HeightAnswer}
+use Rattle.lookup.specs.declared.height.HeightAnswer.the-variants as height
+use Rattle.capi.specs.declared.numbers.TableNumbers.{TableNumbers}
+use Rattle.capi.specs.declared.numbers.LitresNumbers.{LitresNumbers}
+use Rattle.capi.specs.declared.numbers.HeightNumbers.{HeightNumbers}
+
+abbrev pub tableNumbers : Made → TableNumbers
+tableNumbers (made.Table d1 d2 rows) = record { refusal = 0; place = 0; d1 = diameterUnits d1; d2 = diameterUnits d2; rows = rows }
+tableNumbers (made.Refused r) = record { refusal = r .number; place = r .place; d1 = 0; d2 = 0; rows = 0 }
+
+abbrev pub litresNumbers : LitresAnswer → LitresNumbers
+litresNumbers (litres.Litres v) = record { refusal = 0; place = 0; volume = volumeUnits v }
+litresNumbers (litres.Refused r) = record { refusal = r .number; place = r .place; volume = 0 }
+
+abbrev pub heightNumbers : HeightAnswer → HeightNumbers
+heightNumbers (height.Height h) = record { refusal = 0; place = 0; height = dipUnits h }
+heightNumbers (height.Refused r) = record { refusal = r .number; place = r .place; height = 0 }

@@ -1,0 +1,49 @@
+// The calls that C programs make, under names that begin with milechime_: the table of a survey and both lookups, on numbers and
+// slices alone. A slice is a pointer and a length to C. Nothing is asked of a caller but that these are what they say.
+ghost use mathlib.Core.Path.{_≡_};
+ghost use lib.ListN.{length};
+ghost use Rattle.table.specs.Answer.{made, tableLeft};
+ghost use Rattle.lookup.specs.Answer.{litresAnswer, heightAnswer};
+ghost use Rattle.capi.specs.Numbers.{tableNumbers, litresNumbers, heightNumbers};
+ghost use Rattle.capi.specs.Slabs.{Condition3Counted};
+ghost use Rattle.capi.specs.Reached.{LowestAnswered};
+use lookup::height::height_for;
+use lookup::litres::litres_at;
+use measure::dip_height::DipHeight;
+use measure::volume::Volume;
+use numbers::HeightNumbers;
+use numbers::LitresNumbers;
+use numbers::TableNumbers;
+use numbers::height_numbers;
+use numbers::litres_numbers;
+use numbers::table_numbers;
+use table::make::make_table;
+
+pub mod numbers;
+
+// The table of a survey, from the start of the lent table; a refusal leaves it as it was.
+#[no_mangle]
+pub extern "C" fn milechime_table(survey: &[u8], table: &mut [u32]) -> TableNumbers
+    ensures { λ r. ⌜ r ≡ tableNumbers (made (now (survey .entry)) (length (now (table .entry)))) ⌝ }
+    ensures { λ r. ⌜ now (table .exit) ≡ tableLeft (now (survey .entry)) (now (table .entry)) ⌝ }
+    ensures { λ r. ⌜ Condition3Counted (now (survey .entry)) (r .rows) (now (table .exit)) ⌝ }
+{
+    table_numbers(make_table(survey, table))
+}
+
+// The volume at a dip height.
+#[no_mangle]
+pub extern "C" fn milechime_litres(dh: u32, step: u32, table: &[u32], height: u32) -> LitresNumbers
+    ensures { λ r. ⌜ r ≡ litresNumbers (litresAnswer dh step (now (table .entry)) height) ⌝ }
+{
+    litres_numbers(litres_at(dh, step, table, DipHeight::of(height)))
+}
+
+// The lowest dip height for a volume.
+#[no_mangle]
+pub extern "C" fn milechime_height(dh: u32, step: u32, table: &[u32], volume: u32) -> HeightNumbers
+    ensures { λ r. ⌜ r ≡ heightNumbers (heightAnswer dh step (now (table .entry)) volume) ⌝ }
+    ensures { λ r. ⌜ LowestAnswered dh step (now (table .entry)) volume r ⌝ }
+{
+    height_numbers(height_for(dh, step, table, Volume::of(volume)))
+}

@@ -1,0 +1,85 @@
+// An answer as plain numbers, laid out as C lays them out: the refusal's number and place, both 0 where nothing is refused, and
+// the figures, all 0 in a refusal. No refusal has number 0 (specs/Refusals.antt).
+ghost use mathlib.Core.Path.{_≡_};
+ghost use Rattle.capi.specs.Numbers.{tableNumbers, litresNumbers, heightNumbers};
+use lookup::height::HeightAnswer;
+use lookup::litres::LitresAnswer;
+use table::make::Made;
+
+#[repr(C)]
+pub struct TableNumbers {
+    pub refusal: u32,
+    pub place: u32,
+    pub d1: u32,
+    pub d2: u32,
+    pub rows: u32,
+}
+
+#[repr(C)]
+pub struct LitresNumbers {
+    pub refusal: u32,
+    pub place: u32,
+    pub volume: u32,
+}
+
+#[repr(C)]
+pub struct HeightNumbers {
+    pub refusal: u32,
+    pub place: u32,
+    pub height: u32,
+}
+
+pub fn table_numbers(answer: Made) -> TableNumbers
+    ensures { λ r. ⌜ r ≡ tableNumbers answer ⌝ }
+{
+    match answer {
+        Made::Table(d1, d2, rows) => TableNumbers {
+            refusal: 0,
+            place: 0,
+            d1: d1.units(),
+            d2: d2.units(),
+            rows,
+        },
+        Made::Refused(r) => TableNumbers {
+            refusal: r.number,
+            place: r.place,
+            d1: 0,
+            d2: 0,
+            rows: 0,
+        },
+    }
+}
+
+pub fn litres_numbers(answer: LitresAnswer) -> LitresNumbers
+    ensures { λ r. ⌜ r ≡ litresNumbers answer ⌝ }
+{
+    match answer {
+        LitresAnswer::Litres(volume) => LitresNumbers {
+            refusal: 0,
+            place: 0,
+            volume: volume.units(),
+        },
+        LitresAnswer::Refused(r) => LitresNumbers {
+            refusal: r.number,
+            place: r.place,
+            volume: 0,
+        },
+    }
+}
+
+pub fn height_numbers(answer: HeightAnswer) -> HeightNumbers
+    ensures { λ r. ⌜ r ≡ heightNumbers answer ⌝ }
+{
+    match answer {
+        HeightAnswer::Height(height) => HeightNumbers {
+            refusal: 0,
+            place: 0,
+            height: height.units(),
+        },
+        HeightAnswer::Refused(r) => HeightNumbers {
+            refusal: r.number,
+            place: r.place,
+            height: 0,
+        },
+    }
+}

@@ -1,0 +1,123 @@
+/*
+ * Milechime: the capacity table of a level, round tank from its survey, and
+ * both readings of such a table: the volume at a dip height, and the lowest
+ * dip height for a volume.
+ *
+ * Units. Lengths are whole numbers of u = 0.01 mm, volumes whole numbers of
+ * v = 0.01 L: a dip height of 5000 is 50.00 mm, a volume of 1398 is 13.98 L.
+ *
+ * Limits. A survey has at most MILECHIME_LARGEST_SURVEY bytes, a table at most
+ * MILECHIME_MOST_ROWS rows.
+ *
+ * Every call takes any numbers and any bytes, and answers. A length counts
+ * bytes of a survey and cells of a table; with length 0 the pointer may be
+ * null. A survey and the table made from it may not overlap.
+ *
+ * No call allocates, keeps or shares anything: calls may run in several
+ * threads at once, each with memory of its own. A call needs less than 64 KiB
+ * of stack.
+ *
+ * Link with libcapi.a (x86-64 Linux).
+ */
+#ifndef MILECHIME_H
+#define MILECHIME_H
+
+#include <stddef.h>
+#include <stdint.h>
+
+#ifdef __cplusplus
+extern "C" {
+#endif
+
+#define MILECHIME_LARGEST_SURVEY 65536
+#define MILECHIME_MOST_ROWS 5001
+
+/*
+ * Refusals. The first number of every answer is 0, or that of the first
+ * refusal that fits, in this order; the second is its place. Then every other
+ * number of the answer is 0, and lent memory is untouched.
+ *
+ *  no.  given when                                               place
+ *   1   the survey has under 48 or over 65,536 bytes             0
+ *   2   the course count is not 1 to 40, or the deadwood
+ *       count not 0 to 64                                        0
+ *   3   courses or deadwood start before byte 48, end outside
+ *       the survey, or overlap                                   0
+ *   4   the head kind is not 0 (flat) or 1 (half-ellipsoid)      0
+ *   5   another number of the survey is outside its limits       its byte offset
+ *   6   the course lengths do not add up to the shell length     0
+ *   7   a diameter, D1 or D2, is outside 50,000 to 500,000 or
+ *       more than 10,000 away from DH                            0
+ *   8   the lent table is shorter than the row count             0
+ *   9   a row is below the row before                            its index
+ *  10   a row is below zero                                      its index
+ *  11   lookup: DH is not 50,000 to 500,000, the step not 100
+ *       to 10,000, the table has not exactly the row count, or
+ *       a row is below the row before                            0
+ *  12   lookup: the height is above DH                           0
+ *  13   lookup: the volume is above the last row                 0
+ */
+
+/* The answer to milechime_table. */
+struct milechime_table_answer {
+    uint32_t refusal; /* 0, or 1 to 10 */
+    uint32_t place;   /* of the refusal */
+    uint32_t d1;      /* inner diameter of the shell, u */
+    uint32_t d2;      /* inner diameter of flanges and heads, u */
+    uint32_t rows;    /* rows written */
+};
+
+/*
+ * Makes the table of a survey. Row i is the volume at dip height i times the
+ * step, the last row that at DH, both from the survey. The rows are written
+ * from table[0] on; cells behind them are untouched, and so is the whole
+ * table in a refusal. MILECHIME_MOST_ROWS cells are enough for every survey.
+ */
+struct milechime_table_answer milechime_table(
+    const uint8_t *survey, size_t survey_length,
+    uint32_t *table, size_t table_length);
+
+/*
+ * Both lookups take DH, the inner vertical diameter at the dip point, the
+ * step, and a table of exactly the row count: DH / step + 1 rows, and one more
+ * if DH is no multiple of the step. The table may come from anywhere and is
+ * only read.
+ */
+
+/* The answer to milechime_litres. */
+struct milechime_litres_answer {
+    uint32_t refusal; /* 0, 11 or 12 */
+    uint32_t place;   /* 0 */
+    uint32_t volume;  /* v */
+};
+
+/*
+ * The volume at a dip height: a row, or the nearest v on the straight line
+ * between the rows below and above, halves up.
+ */
+struct milechime_litres_answer milechime_litres(
+    uint32_t dh, uint32_t step,
+    const uint32_t *table, size_t table_length,
+    uint32_t height);
+
+/* The answer to milechime_height. */
+struct milechime_height_answer {
+    uint32_t refusal; /* 0, 11 or 13 */
+    uint32_t place;   /* 0 */
+    uint32_t height;  /* u */
+};
+
+/*
+ * The lowest dip height, from 0 to DH, at which milechime_litres gives at
+ * least this volume.
+ */
+struct milechime_height_answer milechime_height(
+    uint32_t dh, uint32_t step,
+    const uint32_t *table, size_t table_length,
+    uint32_t volume);
+
+#ifdef __cplusplus
+}
+#endif
+
+#endif

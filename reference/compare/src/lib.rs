@@ -1,0 +1,3 @@
+//! The proved library as a Rust program calls it.
+
+pub mod calls;

@@ -1,0 +1,94 @@
+//! Writes generated cases and counts their refusals.
+
+use reference::generate::lookups::{lookup_case, Asked};
+use reference::generate::{case, Case};
+use reference::{make_table, Refusal};
+use std::io::Write;
+
+const USAGE: &str = "usage:
+  survey_gen survey SEED K         the bytes of survey K
+  survey_gen table SEED K          the length of the table lent for survey K
+  survey_gen answer SEED K         the answer to case K: accepted D1 D2 ROWS, or refused N P
+  survey_gen count SEED N          how often each refusal comes in the first N cases
+  survey_gen lookup SEED K         lookup case K: DH STEP litres|height ASKED, then the rows
+  survey_gen lookup-answer SEED K  the answer to lookup case K, in whole u or v
+  survey_gen lookup-count SEED N   how often each refusal comes in the first N lookup cases";
+
+fn main() {
+    let words: Vec<String> = std::env::args().skip(1).collect();
+    let numbers: Vec<u64> = words
+        .iter()
+        .skip(1)
+        .filter_map(|word| word.parse().ok())
+        .collect();
+    let (Some(what), &[seed, number]) = (words.first(), numbers.as_slice()) else {
+        eprintln!("{USAGE}");
+        std::process::exit(2);
+    };
+    match what.as_str() {
+        "survey" => std::io::stdout()
+            .write_all(&case(seed, number).survey)
+            .expect("standard output can be written"),
+        "table" => println!("{}", case(seed, number).table_len),
+        "answer" => println!("{}", answer(&case(seed, number))),
+        "count" => count(number, |k| {
+            let case = case(seed, k);
+            make_table(&case.survey, case.table_len).err()
+        }),
+        "lookup" => println!("{}", lookup(seed, number)),
+        "lookup-answer" => println!("{}", lookup_answer(seed, number)),
+        "lookup-count" => count(number, |k| lookup_case(seed, k).answer().err()),
+        _ => {
+            eprintln!("{USAGE}");
+            std::process::exit(2);
+        }
+    }
+}
+
+fn refused(refusal: Refusal) -> String {
+    format!("refused {} {}", refusal.number, refusal.place)
+}
+
+fn answer(case: &Case) -> String {
+    match make_table(&case.survey, case.table_len) {
+        Ok(table) => format!("accepted {} {} {}", table.d1, table.d2, table.rows.len()),
+        Err(refusal) => refused(refusal),
+    }
+}
+
+fn lookup(seed: u64, number: u64) -> String {
+    let case = lookup_case(seed, number);
+    let (what, asked) = match case.asked {
+        Asked::Litres(height) => ("litres", height),
+        Asked::Height(volume) => ("height", volume),
+    };
+    let rows: Vec<String> = case.table.iter().map(|row| row.to_string()).collect();
+    format!(
+        "{} {} {} {}\n{}",
+        case.dh,
+        case.step,
+        what,
+        asked,
+        rows.join(" ")
+    )
+}
+
+fn lookup_answer(seed: u64, number: u64) -> String {
+    match lookup_case(seed, number).answer() {
+        Ok(figure) => figure.to_string(),
+        Err(refusal) => refused(refusal),
+    }
+}
+
+/// Prints how many of the cases are accepted and how many meet each refusal.
+fn count(cases: u64, refusal_of: impl Fn(u64) -> Option<Refusal>) {
+    let mut counts = [0u64; 14];
+    for k in 0..cases {
+        let number = refusal_of(k).map_or(0, |refusal| refusal.number);
+        counts[number as usize] += 1;
+    }
+    println!("accepted {}", counts[0]);
+    for (number, count) in counts.iter().enumerate().skip(1) {
+        println!("refused {number}: {count}");
+    }
+}

@@ -1,0 +1,72 @@
+//! "Dimensions": the inner diameters D1 (shell) and D2 (flanges and heads).
+//! Refusal 7.
+
+use crate::limits::{DIAMETER, DIAMETER_FROM_DH};
+use crate::numbers::nearest;
+use crate::refusal::{refuse, Refusal};
+use crate::survey::{Course, Survey};
+
+/// Both inner diameters, inside their limits.
+#[derive(Clone, Copy, Debug, PartialEq, Eq)]
+pub struct Dimensions {
+    pub d1: u32,
+    pub d2: u32,
+}
+
+/// D1 and D2 of a survey, or refusal 7: "D1 or D2 outside 50,000 to 500,000
+/// or over 10,000 from DH".
+pub fn dimensions(survey: &Survey) -> Result<Dimensions, Refusal> {
+    let wall = wall(&survey.courses);
+    // "D1 is outer minus wall."
+    let d1 = shell_outer_diameter(&survey.courses) - wall;
+    // "D2 (flange and head): ..., minus the same wall".
+    let d2 = end_outer_diameter(survey.left, survey.right) - wall;
+    match (
+        accepted_diameter(d1, survey.dh),
+        accepted_diameter(d2, survey.dh),
+    ) {
+        (Some(d1), Some(d2)) => Ok(Dimensions { d1, d2 }),
+        _ => Err(refuse(7)),
+    }
+}
+
+/// "Outer diameter: nearest of 113·W / (710·ΣL), W the sum over courses of
+/// (first + second circumference)·length".
+pub fn shell_outer_diameter(courses: &[Course]) -> i64 {
+    let mut w: u128 = 0;
+    let mut lengths: u128 = 0;
+    for course in courses {
+        let both = u128::from(course.first) + u128::from(course.second);
+        w += both * u128::from(course.length);
+        lengths += u128::from(course.length);
+    }
+    nearest(113 * w, 710 * lengths) as i64
+}
+
+/// "nearest of 113·(left + right) / 710".
+pub fn end_outer_diameter(left: u32, right: u32) -> i64 {
+    let both = u128::from(left) + u128::from(right);
+    nearest(113 * both, 710) as i64
+}
+
+/// "Wall: nearest of 2·(sum of thicknesses)/(course count)."
+pub fn wall(courses: &[Course]) -> i64 {
+    let sum: u128 = courses
+        .iter()
+        .map(|course| u128::from(course.thickness))
+        .sum();
+    nearest(2 * sum, courses.len() as u128) as i64
+}
+
+/// The diameter, if it is inside its limits and at most 10,000 from DH.
+fn accepted_diameter(diameter: i64, dh: u32) -> Option<u32> {
+    let low = i64::from(DIAMETER.low);
+    let high = i64::from(DIAMETER.high);
+    let inside = low <= diameter && diameter <= high;
+    let near = (diameter - i64::from(dh)).abs() <= DIAMETER_FROM_DH;
+    if inside && near {
+        Some(diameter as u32)
+    } else {
+        None
+    }
+}

@@ -1,0 +1,105 @@
+//! Circumferences for a wished outer diameter, and surveys with diameters at
+//! their limits and just past them.
+
+use super::plan::Plan;
+use super::sound;
+use crate::limits::{CIRCUMFERENCE, DIAMETER};
+use crate::numbers::nearest;
+use crate::random::Random;
+use crate::survey::Course;
+
+/// Two circumferences of which 113·(sum)/710 is nearest to the outer
+/// diameter, as near as the circumferences' limits allow.
+pub fn pair_of_outer(random: &mut Random, outer: u32) -> (u32, u32) {
+    let sum = sum_of_outer(random, outer);
+    split(random, sum)
+}
+
+/// Gives the courses circumferences for the outer diameter. Mostly each course
+/// has exactly that diameter; else they differ and only their mean is near it.
+pub fn courses_of_outer(random: &mut Random, courses: &mut [Course], outer: u32) {
+    let spread = random.pick(&[0, 0, 0, outer / 100]);
+    let sum = sum_of_outer(random, outer);
+    for course in courses {
+        let wished = random.between(sum - spread, sum + spread);
+        let kept = wished.clamp(2 * CIRCUMFERENCE.low, 2 * CIRCUMFERENCE.high);
+        let (first, second) = split(random, kept);
+        course.first = first;
+        course.second = second;
+    }
+}
+
+/// One of the sums that give the outer diameter; the smallest and the largest
+/// such sum are as likely as any other.
+fn sum_of_outer(random: &mut Random, outer: u32) -> u32 {
+    let middle = nearest(710 * u128::from(outer), 113) as u32;
+    let sums: Vec<u32> = (middle - 5..=middle + 5)
+        .filter(|&sum| nearest(113 * u128::from(sum), 710) == u128::from(outer))
+        .collect();
+    random
+        .pick(&sums)
+        .clamp(2 * CIRCUMFERENCE.low, 2 * CIRCUMFERENCE.high)
+}
+
+/// Parts a sum into two circumferences: even, at a limit, or anyhow.
+fn split(random: &mut Random, sum: u32) -> (u32, u32) {
+    let least = CIRCUMFERENCE
+        .low
+        .max(sum.saturating_sub(CIRCUMFERENCE.high));
+    let most = CIRCUMFERENCE.high.min(sum - CIRCUMFERENCE.low);
+    let first = match random.between(1, 8) {
+        1 => least,
+        2 => most,
+        3 => random.between(least, most),
+        _ => sum / 2,
+    };
+    (first, sum - first)
+}
+
+/// One diameter at a limit or one past it, the other sound: the limits of a
+/// diameter itself, or 10,000 from DH on either side.
+pub fn at_limits(random: &mut Random) -> Plan {
+    let low = DIAMETER.low;
+    let high = DIAMETER.high;
+    let (dh, diameter) = match random.between(1, 20) {
+        1..=2 => (random.between(low, low + 10_000), low - 1),
+        3..=4 => (random.between(low, low + 10_000), low),
+        5 => (random.between(high - 10_000, high), high),
+        6..=7 => (random.between(high - 10_000, high), high + 1),
+        8..=10 => from_dh(random, 10_000),
+        11..=13 => from_dh(random, 10_001),
+        14..=16 => from_dh(random, -10_000),
+        17..=19 => from_dh(random, -10_001),
+        _ => (low, low + 10_001),
+    };
+    let other = dh;
+    if random.one_in(2) {
+        exact(random, dh, diameter, other)
+    } else {
+        exact(random, dh, other, diameter)
+    }
+}
+
+/// A DH, and the diameter that lies that far from it, inside its own limits.
+fn from_dh(random: &mut Random, difference: i32) -> (u32, u32) {
+    let dh = random.between(60_001, 75_000);
+    (dh, (dh as i32 + difference) as u32)
+}
+
+/// A survey with exactly these diameters: every course alike and walls thin
+/// enough for the largest circumference.
+fn exact(random: &mut Random, dh: u32, d1: u32, d2: u32) -> Plan {
+    let mut plan = sound::with_diameters(random, dh, d1, d2);
+    let thickness = random.between(100, 4_000);
+    let (left, right) = pair_of_outer(random, d2 + 2 * thickness);
+    plan.left = left;
+    plan.right = right;
+    let sum = sum_of_outer(random, d1 + 2 * thickness);
+    for course in &mut plan.courses {
+        let (first, second) = split(random, sum);
+        course.first = first;
+        course.second = second;
+        course.thickness = thickness;
+    }
+    plan
+}

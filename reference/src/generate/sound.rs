@@ -1,0 +1,253 @@
+//! Sound surveys over the whole range of every limit. Most have a small
+//! diameter and a wide step, so that their tables are quickly made.
+
+use super::diameters::{courses_of_outer, pair_of_outer};
+use super::plan::{Layout, Plan};
+use crate::deadwood::Deadwood;
+use crate::dimensions::wall;
+use crate::heights::DipHeight;
+use crate::limits::{self, LARGEST_FILE};
+use crate::random::Random;
+use crate::survey::Course;
+
+/// A survey that keeps every limit. Now and then the deadwood or the rounding
+/// of many courses still leads to refusal 7 or 9.
+pub fn sound(random: &mut Random) -> Plan {
+    let dh = dip_diameter(random);
+    let d1 = near_diameter(random, dh);
+    let d2 = near_diameter(random, dh);
+    let mut plan = with_diameters(random, dh, d1, d2);
+    plan.deadwood = gentle_deadwood(random, &plan);
+    plan.layout = layout(random, &plan);
+    plan
+}
+
+/// A sound survey but for deadwood of any size anywhere.
+pub fn wild_deadwood(random: &mut Random) -> Plan {
+    let mut plan = sound(random);
+    let count = deadwood_count(random);
+    plan.deadwood = (0..count).map(|_| wild_item(random, plan.dh)).collect();
+    plan.layout = layout(random, &plan);
+    plan
+}
+
+/// A survey without deadwood with the wished diameters, as near as the
+/// circumferences' limits allow.
+pub fn with_diameters(random: &mut Random, dh: u32, d1: u32, d2: u32) -> Plan {
+    let kind = random.between(0, 1);
+    let l1 = l1(random);
+    let mut courses = bare_courses(random, l1);
+    let wall = wall(&courses) as u32;
+    courses_of_outer(random, &mut courses, d1 + wall);
+    let (left, right) = pair_of_outer(random, d2 + wall);
+    let l3_limits = limits::l3_limits(kind);
+    let mut plan = Plan {
+        kind,
+        dh,
+        l1,
+        left,
+        right,
+        l2: in_limits(random, limits::L2),
+        l3: in_limits(random, l3_limits),
+        step: step(random),
+        courses,
+        deadwood: Vec::new(),
+        layout: Layout {
+            deadwood_first: false,
+            gap_before: 0,
+            gap_between: 0,
+            gap_after: 0,
+            empty_offset: 0,
+            filler: 0,
+        },
+    };
+    plan.layout = layout(random, &plan);
+    plan
+}
+
+/// A number inside limits, often at one of them.
+fn in_limits(random: &mut Random, limits: limits::Limits) -> u32 {
+    match random.between(1, 6) {
+        1 => limits.low,
+        2 => limits.high,
+        _ => random.between(limits.low, limits.high),
+    }
+}
+
+fn dip_diameter(random: &mut Random) -> u32 {
+    match random.between(1, 40) {
+        1 => limits::DH.high,
+        2 => random.between(limits::DH.low, limits::DH.high),
+        3..=6 => limits::DH.low,
+        7..=12 => random.between(60_000, 120_000),
+        _ => random.between(50_000, 60_000),
+    }
+}
+
+/// A diameter inside its limits and at most 10,000 from DH.
+fn near_diameter(random: &mut Random, dh: u32) -> u32 {
+    let low = (dh - 10_000).max(limits::DIAMETER.low);
+    let high = (dh + 10_000).min(limits::DIAMETER.high);
+    match random.between(1, 10) {
+        1 => low,
+        2 => high,
+        3..=4 => dh,
+        5..=6 => random.between(dh.saturating_sub(9).max(low), (dh + 9).min(high)),
+        _ => random.between(low, high),
+    }
+}
+
+fn l1(random: &mut Random) -> u32 {
+    match random.between(1, 8) {
+        1 => limits::L1.low,
+        2 => limits::L1.high,
+        3..=5 => random.between(100_000, 400_000),
+        _ => random.between(limits::L1.low, limits::L1.high),
+    }
+}
+
+fn step(random: &mut Random) -> u32 {
+    match random.between(1, 40) {
+        1 => limits::STEP.low,
+        2 => random.between(100, 1_000),
+        3..=10 => limits::STEP.high,
+        11..=14 => random.pick(&[9_999, 5_000, 2_500, 6_250]),
+        _ => random.between(3_000, 10_000),
+    }
+}
+
+/// Courses whose lengths add up to L1, with thicknesses and no
+/// circumferences yet.
+fn bare_courses(random: &mut Random, l1: u32) -> Vec<Course> {
+    let count = match random.between(1, 10) {
+        1..=4 => 1,
+        5..=7 => random.between(2, 5),
+        8 => limits::COURSE_COUNT.high,
+        _ => random.between(1, limits::COURSE_COUNT.high),
+    };
+    let thickness = in_limits(random, limits::THICKNESS);
+    let mut rest = l1;
+    let mut courses = Vec::new();
+    for left_over in (0..count).rev() {
+        // Every later course still needs a length of at least 1.
+        let most = rest - left_over;
+        let length = if left_over == 0 {
+            rest
+        } else if random.one_in(10) {
+            1
+        } else {
+            random.between(1, most.min(2 * rest / (left_over + 1)))
+        };
+        rest -= length;
+        courses.push(Course {
+            first: 0,
+            second: 0,
+            length,
+            thickness: if random.one_in(3) {
+                in_limits(random, limits::THICKNESS)
+            } else {
+                thickness
+            },
+        });
+    }
+    courses
+}
+
+fn deadwood_count(random: &mut Random) -> usize {
+    match random.between(1, 20) {
+        1..=5 => 0,
+        6..=13 => random.index(1, 5),
+        14..=15 => limits::DEADWOOD_COUNT.high as usize,
+        _ => random.index(1, 64),
+    }
+}
+
+/// Deadwood that hardly ever makes a row fall: what takes room away lies
+/// between an eighth and seven eighths of DH and is small beside the shell
+/// there; what adds room is of any size.
+fn gentle_deadwood(random: &mut Random, plan: &Plan) -> Vec<Deadwood> {
+    let count = deadwood_count(random);
+    (0..count)
+        .map(|_| match random.between(1, 3) {
+            1 => added_room(random, plan.dh),
+            _ => small_item(random, plan, count as u64),
+        })
+        .collect()
+}
+
+fn added_room(random: &mut Random, dh: u32) -> Deadwood {
+    let mut item = wild_item(random, dh);
+    item.volume = -item.volume.abs();
+    item
+}
+
+fn small_item(random: &mut Random, plan: &Plan, count: u64) -> Deadwood {
+    let low = random.between(plan.dh / 8, plan.dh / 2);
+    let high = random.between(low + plan.dh / 4, plan.dh / 8 * 7);
+    // Half the diameter times the length is less than the shell's section.
+    let band = u64::from(plan.dh / 2) * u64::from(plan.l1) * u64::from(high - low);
+    let most = band / 10_000_000_000 / (2 * count);
+    let most = most.clamp(1, limits::DEADWOOD_VOLUME as u64) as u32;
+    Deadwood {
+        low: DipHeight(low),
+        high: DipHeight(high),
+        volume: random.between(0, most) as i32,
+    }
+}
+
+fn wild_item(random: &mut Random, dh: u32) -> Deadwood {
+    let low = match random.between(1, 6) {
+        1 => 0,
+        2 => dh - 1,
+        _ => random.between(0, dh - 1),
+    };
+    let high = match random.between(1, 6) {
+        1 => dh,
+        2 => low + 1,
+        _ => random.between(low + 1, dh),
+    };
+    let size = match random.between(1, 6) {
+        1 => limits::DEADWOOD_VOLUME,
+        2 => random.between(0, 3) as i32,
+        3 => random.between(0, limits::DEADWOOD_VOLUME as u32) as i32,
+        _ => random.between(0, 2_000) as i32,
+    };
+    Deadwood {
+        low: DipHeight(low),
+        high: DipHeight(high),
+        volume: if random.one_in(2) { size } else { -size },
+    }
+}
+
+/// Sections in either order, touching or apart, at any offset; files up to the
+/// largest.
+pub fn layout(random: &mut Random, plan: &Plan) -> Layout {
+    let mut layout = Layout {
+        deadwood_first: random.one_in(2),
+        gap_before: gap(random),
+        gap_between: gap(random),
+        gap_after: gap(random),
+        empty_offset: random.pick(&[0, 47, 48, 64, u32::MAX, 0x8000_0000]),
+        filler: random.any(),
+    };
+    let planned = Plan {
+        layout,
+        ..plan.clone()
+    };
+    let room = LARGEST_FILE - planned.bytes_without_last_gap();
+    match random.between(1, 60) {
+        1 => layout.gap_after = room,
+        2 => layout.gap_before += room - layout.gap_after,
+        3 => layout.gap_between += room - layout.gap_after,
+        _ => {}
+    }
+    layout
+}
+
+fn gap(random: &mut Random) -> usize {
+    match random.between(1, 6) {
+        1 => random.index(1, 3),
+        2 => random.index(4, 40),
+        _ => 0,
+    }
+}

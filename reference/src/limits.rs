@@ -1,0 +1,59 @@
+//! The limits in the paper's tables under "The survey file".
+
+/// "A header of 48 bytes".
+pub const HEADER_BYTES: usize = 48;
+/// "A course is 16 bytes".
+pub const COURSE_BYTES: usize = 16;
+/// "A deadwood item is 12 bytes".
+pub const DEADWOOD_BYTES: usize = 12;
+/// Refusal 1: "file under 48 or over 65,536 bytes".
+pub const LARGEST_FILE: usize = 65_536;
+
+/// A smallest and a largest allowed number, both allowed.
+#[derive(Clone, Copy, Debug, PartialEq, Eq)]
+pub struct Limits {
+    pub low: u32,
+    pub high: u32,
+}
+
+impl Limits {
+    pub fn allow(self, number: u32) -> bool {
+        self.low <= number && number <= self.high
+    }
+}
+
+const fn limits(low: u32, high: u32) -> Limits {
+    Limits { low, high }
+}
+
+pub const COURSE_COUNT: Limits = limits(1, 40);
+pub const DEADWOOD_COUNT: Limits = limits(0, 64);
+
+pub const HEAD_KIND: Limits = limits(0, 1);
+pub const DH: Limits = limits(50_000, 500_000);
+pub const L1: Limits = limits(100_000, 3_000_000);
+pub const CIRCUMFERENCE: Limits = limits(150_000, 1_600_000);
+pub const L2: Limits = limits(0, 20_000);
+pub const L3_KIND_0: Limits = limits(0, 0);
+pub const L3_KIND_1: Limits = limits(1, 260_000);
+pub const STEP: Limits = limits(100, 10_000);
+
+pub const COURSE_LENGTH: Limits = limits(1, 3_000_000);
+pub const THICKNESS: Limits = limits(100, 5_000);
+
+/// "Volume is -10,000,000 to 10,000,000 v".
+pub const DEADWOOD_VOLUME: i32 = 10_000_000;
+
+/// "smallest 500.00 mm and largest 5,000.00 mm".
+pub const DIAMETER: Limits = limits(50_000, 500_000);
+/// Refusal 7: "over 10,000 from DH".
+pub const DIAMETER_FROM_DH: i64 = 10_000;
+
+/// The limits of L3, which depend on the head kind.
+pub fn l3_limits(kind: u32) -> Limits {
+    if kind == 0 {
+        L3_KIND_0
+    } else {
+        L3_KIND_1
+    }
+}

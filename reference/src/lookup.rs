@@ -1,0 +1,65 @@
+//! "Lookups". Refusals 11 to 13.
+//!
+//! "Both take DH, step and a lent table of exactly the row count; heights and
+//! volumes asked for are unsigned 32-bit numbers."
+
+use crate::limits;
+use crate::refusal::{refuse, Refusal};
+use crate::rows::row_count;
+
+/// "Litres at height h: the row itself, or on the straight line between
+/// neighbour rows, nearest v."
+pub fn litres_at_height(dh: u32, step: u32, table: &[u32], height: u32) -> Result<u32, Refusal> {
+    check_table(dh, step, table)?;
+    // Refusal 12: "height above DH".
+    if height > dh {
+        return Err(refuse(12));
+    }
+    Ok(litres(dh, step, table, height))
+}
+
+/// "Height for volume w: the lowest h from 0 to DH whose litres are at least
+/// w."
+pub fn height_for_volume(dh: u32, step: u32, table: &[u32], volume: u32) -> Result<u32, Refusal> {
+    check_table(dh, step, table)?;
+    // Refusal 13: "volume above the last row".
+    if volume > table[table.len() - 1] {
+        return Err(refuse(13));
+    }
+    let lowest = (0..=dh).find(|&height| litres(dh, step, table, height) >= volume);
+    Ok(lowest.expect("the litres at DH are the last row, which is at least the volume"))
+}
+
+/// Refusal 11: "DH or step outside limits, wrong row count, or a row falls".
+fn check_table(dh: u32, step: u32, table: &[u32]) -> Result<(), Refusal> {
+    if !limits::DH.allow(dh) || !limits::STEP.allow(step) {
+        return Err(refuse(11));
+    }
+    if table.len() != row_count(dh, step) {
+        return Err(refuse(11));
+    }
+    if table.windows(2).any(|pair| pair[1] < pair[0]) {
+        return Err(refuse(11));
+    }
+    Ok(())
+}
+
+/// The litres at a height from 0 to DH of a table that has been checked.
+/// The last two rows may stand closer together than a step.
+fn litres(dh: u32, step: u32, table: &[u32], height: u32) -> u32 {
+    if height == dh {
+        return table[table.len() - 1];
+    }
+    let index = (height / step) as usize;
+    let low_height = index as u32 * step;
+    if height == low_height {
+        return table[index];
+    }
+    let high_height = (low_height + step).min(dh);
+    let low_row = u64::from(table[index]);
+    let high_row = u64::from(table[index + 1]);
+    let rise = (high_row - low_row) * u64::from(height - low_height);
+    let span = u64::from(high_height - low_height);
+    // "nearest v": halves up, and the low row is whole.
+    (low_row + (2 * rise + span) / (2 * span)) as u32
+}

@@ -1,0 +1,180 @@
+//! Reading a survey file. Refusals 1 to 6.
+
+use crate::bytes::{signed_at, unsigned_at};
+use crate::deadwood::Deadwood;
+use crate::heights::DipHeight;
+use crate::limits::{self, Limits};
+use crate::refusal::{refuse, refuse_at, Refusal};
+use crate::sections::{self, Sections};
+
+/// "A course is 16 bytes: two circumferences, length, thickness".
+#[derive(Clone, Copy, Debug, PartialEq, Eq)]
+pub struct Course {
+    pub first: u32,
+    pub second: u32,
+    pub length: u32,
+    pub thickness: u32,
+}
+
+/// A survey with every number inside its limits.
+#[derive(Clone, Debug, PartialEq, Eq)]
+pub struct Survey {
+    pub kind: u32,
+    pub dh: u32,
+    pub l1: u32,
+    pub left: u32,
+    pub right: u32,
+    pub l2: u32,
+    pub l3: u32,
+    pub step: u32,
+    pub courses: Vec<Course>,
+    pub deadwood: Vec<Deadwood>,
+}
+
+/// Reads a file of any bytes and any length, with refusals 1 to 6 "tested in
+/// this order".
+pub fn parse(file: &[u8]) -> Result<Survey, Refusal> {
+    // Refusal 1: "file under 48 or over 65,536 bytes".
+    if file.len() < limits::HEADER_BYTES || file.len() > limits::LARGEST_FILE {
+        return Err(refuse(1));
+    }
+
+    // Refusals 2 and 3.
+    let sections = sections::find(file)?;
+
+    // Refusal 4: "head kind not 0 or 1".
+    if !limits::HEAD_KIND.allow(unsigned_at(file, 0)) {
+        return Err(refuse(4));
+    }
+
+    // Refusal 5: "another number outside its limits".
+    if let Some(place) = first_bad_number(file, &sections) {
+        return Err(refuse_at(5, place));
+    }
+
+    let survey = read(file, &sections);
+
+    // Refusal 6: "course lengths do not add up to L1".
+    let total: u64 = survey
+        .courses
+        .iter()
+        .map(|course| u64::from(course.length))
+        .sum();
+    if total != u64::from(survey.l1) {
+        return Err(refuse(6));
+    }
+
+    Ok(survey)
+}
+
+/// "byte offset of the first, header, courses, deadwood". The order is that
+/// of the header, then the courses, then the deadwood, wherever the two
+/// sections lie in the file.
+fn first_bad_number(file: &[u8], sections: &Sections) -> Option<usize> {
+    first_bad_in_header(file)
+        .or_else(|| first_bad_in_courses(file, &sections.courses))
+        .or_else(|| first_bad_in_deadwood(file, &sections.deadwood))
+}
+
+fn first_bad_in_header(file: &[u8]) -> Option<usize> {
+    let kind = unsigned_at(file, 0);
+    first_outside(
+        file,
+        &[
+            (4, limits::DH),
+            (8, limits::L1),
+            (12, limits::CIRCUMFERENCE),
+            (16, limits::CIRCUMFERENCE),
+            (20, limits::L2),
+            (24, limits::l3_limits(kind)),
+            (28, limits::STEP),
+        ],
+    )
+}
+
+fn first_bad_in_courses(file: &[u8], offsets: &[usize]) -> Option<usize> {
+    for &at in offsets {
+        let bad = first_outside(
+            file,
+            &[
+                (at, limits::CIRCUMFERENCE),
+                (at + 4, limits::CIRCUMFERENCE),
+                (at + 8, limits::COURSE_LENGTH),
+                (at + 12, limits::THICKNESS),
+            ],
+        );
+        if bad.is_some() {
+            return bad;
+        }
+    }
+    None
+}
+
+/// "Low < high ≤ DH; if not, the high number is the bad one. Volume is
+/// -10,000,000 to 10,000,000 v". The low number is never the bad one.
+fn first_bad_in_deadwood(file: &[u8], offsets: &[usize]) -> Option<usize> {
+    let dh = unsigned_at(file, 4);
+    for &at in offsets {
+        let low = unsigned_at(file, at);
+        let high = unsigned_at(file, at + 4);
+        let volume = signed_at(file, at + 8);
+        if low >= high || high > dh {
+            return Some(at + 4);
+        }
+        if volume.unsigned_abs() > limits::DEADWOOD_VOLUME as u32 {
+            return Some(at + 8);
+        }
+    }
+    None
+}
+
+/// The first of the listed places whose number is outside its limits.
+fn first_outside(file: &[u8], places: &[(usize, Limits)]) -> Option<usize> {
+    for &(at, limits) in places {
+        if !limits.allow(unsigned_at(file, at)) {
+            return Some(at);
+        }
+    }
+    None
+}
+
+/// Takes the numbers over, once they are known to be inside their limits.
+fn read(file: &[u8], sections: &Sections) -> Survey {
+    Survey {
+        kind: unsigned_at(file, 0),
+        dh: unsigned_at(file, 4),
+        l1: unsigned_at(file, 8),
+        left: unsigned_at(file, 12),
+        right: unsigned_at(file, 16),
+        l2: unsigned_at(file, 20),
+        l3: unsigned_at(file, 24),
+        step: unsigned_at(file, 28),
+        courses: sections
+            .courses
+            .iter()
+            .map(|&at| read_course(file, at))
+            .collect(),
+        deadwood: sections
+            .deadwood
+            .iter()
+            .map(|&at| read_deadwood(file, at))
+            .collect(),
+    }
+}
+
+fn read_course(file: &[u8], at: usize) -> Course {
+    Course {
+        first: unsigned_at(file, at),
+        second: unsigned_at(file, at + 4),
+        length: unsigned_at(file, at + 8),
+        thickness: unsigned_at(file, at + 12),
+    }
+}
+
+fn read_deadwood(file: &[u8], at: usize) -> Deadwood {
+    Deadwood {
+        low: DipHeight(unsigned_at(file, at)),
+        high: DipHeight(unsigned_at(file, at + 4)),
+        volume: signed_at(file, at + 8),
+    }
+}

@@ -1,0 +1,108 @@
+//! Making a table from a survey. Refusals 8 to 10, after 1 to 7.
+
+use crate::deadwood::all_shares;
+use crate::dimensions::dimensions;
+use crate::gross::Tank;
+use crate::refusal::{refuse, refuse_at, Refusal};
+use crate::rows::{row_count, row_heights};
+use crate::survey::parse;
+
+/// An accepted survey's diameters and net rows; the row count of the answer
+/// is the number of rows.
+#[derive(Clone, Debug, PartialEq, Eq)]
+pub struct Table {
+    pub d1: u32,
+    pub d2: u32,
+    pub rows: Vec<u32>,
+}
+
+/// "The answer holds D1, D2 and the row count". "A refusal returns its number
+/// and place, every other number 0". An acceptance has number 0 and place 0.
+#[derive(Clone, Copy, Debug, PartialEq, Eq)]
+pub struct Answer {
+    pub number: u32,
+    pub place: u32,
+    pub d1: u32,
+    pub d2: u32,
+    pub rows: u32,
+}
+
+/// Makes the table of a survey of any bytes, for a lent table of
+/// `table_len` cells.
+pub fn make_table(survey: &[u8], table_len: usize) -> Result<Table, Refusal> {
+    let survey = parse(survey)?; // refusals 1 to 6
+    let dimensions = dimensions(&survey)?; // refusal 7
+
+    // Refusal 8: "lent table shorter than the row count".
+    if table_len < row_count(survey.dh, survey.step) {
+        return Err(refuse(8));
+    }
+
+    // "Net = gross minus all shares."
+    let tank = Tank::new(&survey, dimensions);
+    let mut net: Vec<i64> = Vec::new();
+    for height in row_heights(survey.dh, survey.step) {
+        net.push(tank.gross(height) as i64 - all_shares(&survey.deadwood, height));
+    }
+
+    check_net_rows(&net)?;
+
+    // "Its cells are unsigned 32-bit numbers of v; every accepted net row fits."
+    let rows = net
+        .iter()
+        .map(|&row| u32::try_from(row).expect("every accepted net row fits"))
+        .collect();
+    Ok(Table {
+        d1: dimensions.d1,
+        d2: dimensions.d2,
+        rows,
+    })
+}
+
+/// Refusals 9 and 10, in this order: a fall is looked for in the whole table
+/// before any row below zero is.
+///
+/// Refusal 10 cannot come out of a survey. At dip height 0 every item's low
+/// height is at or above the dip height (heights are unsigned), so every share
+/// there is 0 and row 0 is the gross, which is not below zero. Rows that do
+/// not fall are then all at or above row 0; rows that do fall are refusal 9.
+pub fn check_net_rows(net: &[i64]) -> Result<(), Refusal> {
+    // Refusal 9: "a net row below the row before".
+    for index in 1..net.len() {
+        if net[index] < net[index - 1] {
+            return Err(refuse_at(9, index));
+        }
+    }
+    // Refusal 10: "a net row below zero".
+    for (index, &row) in net.iter().enumerate() {
+        if row < 0 {
+            return Err(refuse_at(10, index));
+        }
+    }
+    Ok(())
+}
+
+/// The same with lent memory: "the lent table holds the net rows from its
+/// start and is unchanged after them"; a refusal "leaves lent memory
+/// untouched".
+pub fn fill_table(survey: &[u8], lent: &mut [u32]) -> Answer {
+    match make_table(survey, lent.len()) {
+        Ok(table) => {
+            lent[..table.rows.len()].copy_from_slice(&table.rows);
+            Answer {
+                number: 0,
+                place: 0,
+                d1: table.d1,
+                d2: table.d2,
+                rows: table.rows.len() as u32,
+            }
+        }
+        Err(refusal) => Answer {
+            number: refusal.number,
+            place: refusal.place,
+            d1: 0,
+            d2: 0,
+            rows: 0,
+        },
+    }
+}

@@ -1,0 +1,165 @@
+//! Every line of the paper's "Readings off the stick".
+
+mod common;
+
+use common::*;
+use reference::deadwood::{share, Deadwood};
+use reference::dimensions::{end_outer_diameter, shell_outer_diameter};
+use reference::heights::{DipHeight, ShellHeight};
+use reference::numbers::{half_down, nearest};
+use reference::rows::{row_count, row_heights, MOST_ROWS};
+use reference::survey::Course;
+use reference::text::printed_table;
+use reference::volumes::{chord, heads};
+use reference::{height_for_volume, litres_at_height, make_table};
+use std::io::Write;
+use std::process::{Command, Stdio};
+
+const PRINTED: &str = "rows 6
+0.00 0.00
+100.00 27.96
+200.00 73.34
+300.00 123.01
+400.00 168.39
+500.00 196.35
+";
+
+#[test]
+fn chords() {
+    assert_eq!(chord(50_000, 0), 0);
+    assert_eq!(chord(50_000, 1), 447);
+    assert_eq!(chord(50_000, 25_000), 50_000);
+}
+
+#[test]
+fn halves() {
+    assert_eq!(half_down(-3), -2);
+    assert_eq!(half_down(3), 1);
+}
+
+#[test]
+fn nearest_of_five_halves() {
+    assert_eq!(nearest(5, 2), 3);
+}
+
+#[test]
+fn two_readings_of_160_221() {
+    let course = Course {
+        first: 160_221,
+        second: 160_221,
+        length: 100_000,
+        thickness: 500,
+    };
+    assert_eq!(shell_outer_diameter(&[course]), 51_000);
+    assert_eq!(end_outer_diameter(160_221, 160_221), 51_000);
+}
+
+#[test]
+fn head_volumes() {
+    assert_eq!(heads(260_000, ShellHeight(130_000), 65_000), 230_069);
+    assert_eq!(heads(260_000, ShellHeight(260_000), 65_000), 460_139);
+}
+
+#[test]
+fn deadwood_shares() {
+    let item = |volume| Deadwood {
+        low: DipHeight(0),
+        high: DipHeight(300),
+        volume,
+    };
+    assert_eq!(share(&item(100), DipHeight(151)), 50);
+    assert_eq!(share(&item(-1), DipHeight(150)), -1);
+}
+
+#[test]
+fn row_counts() {
+    assert_eq!(row_count(50_000, 10_000), 6);
+    assert_eq!(row_count(50_000, 9_999), 7);
+    assert_eq!(row_heights(50_000, 10_000).len(), 6);
+    assert_eq!(row_heights(50_000, 9_999).len(), 7);
+}
+
+#[test]
+fn refusals() {
+    assert_eq!(outcome(&paper_survey_but(4, 49_999), MOST_ROWS), (5, 4));
+    assert_eq!(outcome(&paper_survey()[..47], MOST_ROWS), (1, 0));
+}
+
+#[test]
+fn the_printed_table() {
+    assert_eq!(printed_table(&paper_survey(), MOST_ROWS), PRINTED);
+    assert_eq!(
+        printed_table(&paper_survey_but(4, 49_999), MOST_ROWS),
+        "refused 5 4\n"
+    );
+}
+
+#[test]
+fn the_answer_of_that_table() {
+    let table = make_table(&paper_survey(), 6).unwrap();
+    assert_eq!((table.d1, table.d2), (50_000, 50_000));
+    assert_eq!(table.rows, [0, 2_796, 7_334, 12_301, 16_839, 19_635]);
+}
+
+#[test]
+fn lookups_on_that_table() {
+    let table = make_table(&paper_survey(), 6).unwrap();
+    assert_eq!(
+        litres_at_height(50_000, 10_000, &table.rows, 5_000),
+        Ok(1_398)
+    );
+    assert_eq!(
+        height_for_volume(50_000, 10_000, &table.rows, 1_398),
+        Ok(4_999)
+    );
+}
+
+#[test]
+fn the_programs_print_the_same() {
+    let table = env!("CARGO_BIN_EXE_reference_table");
+    let lookup = env!("CARGO_BIN_EXE_reference_lookup");
+    assert_eq!(output(table, &[], &paper_survey()), PRINTED);
+    assert_eq!(
+        output(table, &[], &paper_survey_but(4, 49_999)),
+        "refused 5 4\n"
+    );
+    assert_eq!(output(table, &[], &paper_survey()[..47]), "refused 1 0\n");
+    assert_eq!(
+        output(lookup, &["litres", "50"], &paper_survey()),
+        "13.98\n"
+    );
+    assert_eq!(
+        output(lookup, &["litres", "50.00"], &paper_survey()),
+        "13.98\n"
+    );
+    assert_eq!(
+        output(lookup, &["height", "13.98"], &paper_survey()),
+        "49.99\n"
+    );
+    assert_eq!(
+        output(lookup, &["litres", "500.01"], &paper_survey()),
+        "refused 12 0\n"
+    );
+    assert_eq!(
+        output(lookup, &["height", "196.36"], &paper_survey()),
+        "refused 13 0\n"
+    );
+    assert_eq!(
+        output(lookup, &["height", "1"], &paper_survey()[..47]),
+        "refused 1 0\n"
+    );
+}
+
+/// What a program prints for a survey on its standard input.
+fn output(program: &str, words: &[&str], survey: &[u8]) -> String {
+    let mut child = Command::new(program)
+        .args(words)
+        .stdin(Stdio::piped())
+        .stdout(Stdio::piped())
+        .spawn()
+        .unwrap();
+    child.stdin.take().unwrap().write_all(survey).unwrap();
+    let output = child.wait_with_output().unwrap();
+    assert!(output.status.success());
+    String::from_utf8(output.stdout).unwrap()
+}

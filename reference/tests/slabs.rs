@@ -1,0 +1,196 @@
+//! The mission's third condition, run on small surveys with random counts.
+
+use reference::big::Big;
+use reference::dimensions::{dimensions, Dimensions};
+use reference::generate::sound_case;
+use reference::gross::Tank;
+use reference::heights::DipHeight;
+use reference::make_table;
+use reference::random::Random;
+use reference::rows::row_heights;
+use reference::slabs::{condition_holds, tolerance, Counts, Slabs};
+use reference::survey::{parse, Course, Survey};
+use reference::volumes::CUBIC_U_IN_V;
+
+const BOTH: [Slabs; 2] = [Slabs::Fitting, Slabs::Covering];
+
+/// Counts from 1 to some hundreds, often very small.
+fn counts(random: &mut Random) -> Counts {
+    let one = |random: &mut Random| match random.between(1, 4) {
+        1 => 1,
+        2 => random.between(2, 5),
+        3 => random.between(1, 60),
+        _ => random.between(1, 700),
+    };
+    Counts {
+        shell: one(random),
+        flanges: one(random),
+        heads: one(random),
+    }
+}
+
+#[test]
+fn condition_three_on_generated_surveys() {
+    let mut random = Random::new(3);
+    let mut surveys = 0;
+    let mut number = 0;
+    while surveys < 400 {
+        let case = sound_case(3, number);
+        number += 1;
+        let Ok(table) = make_table(&case.survey, case.table_len) else {
+            continue;
+        };
+        let survey = parse(&case.survey).unwrap();
+        if survey.dh > 120_000 || table.rows.len() > 40 {
+            continue;
+        }
+        surveys += 1;
+        let dimensions = dimensions(&survey).unwrap();
+        let tank = Tank::new(&survey, dimensions);
+        for height in row_heights(survey.dh, survey.step) {
+            let gross = tank.gross(height);
+            let counts = counts(&mut random);
+            for slabs in BOTH {
+                assert!(
+                    condition_holds(&survey, dimensions, height, gross, slabs, counts),
+                    "survey {number}, {height:?}, {slabs:?}, {counts:?}"
+                );
+            }
+        }
+    }
+}
+
+/// A tank of these sizes; its diameters are given beside it.
+fn tank_of(kind: u32, dh: u32, l1: u32, l2: u32, l3: u32) -> Survey {
+    Survey {
+        kind,
+        dh,
+        l1,
+        left: 150_000,
+        right: 150_000,
+        l2,
+        l3,
+        step: 10_000,
+        courses: vec![Course {
+            first: 150_000,
+            second: 150_000,
+            length: l1,
+            thickness: 100,
+        }],
+        deadwood: Vec::new(),
+    }
+}
+
+/// The largest tank the limits allow, the smallest, and between.
+#[test]
+fn condition_three_at_the_extremes() {
+    let tanks = [
+        (
+            tank_of(1, 500_000, 3_000_000, 20_000, 260_000),
+            500_000,
+            500_000,
+        ),
+        (tank_of(1, 500_000, 100_000, 0, 260_000), 490_000, 500_000),
+        (tank_of(1, 50_000, 100_000, 20_000, 260_000), 60_000, 50_000),
+        (tank_of(0, 50_000, 100_000, 0, 0), 50_000, 60_000),
+    ];
+    for (survey, d1, d2) in tanks {
+        let dimensions = Dimensions { d1, d2 };
+        let tank = Tank::new(&survey, dimensions);
+        for height in [
+            0,
+            1,
+            survey.dh / 2,
+            survey.dh / 2 + 1,
+            survey.dh - 1,
+            survey.dh,
+        ] {
+            let height = DipHeight(height);
+            let gross = tank.gross(height);
+            for n in [1, 2, 3, 10_000] {
+                let counts = Counts {
+                    shell: n,
+                    flanges: n,
+                    heads: n,
+                };
+                for slabs in BOTH {
+                    assert!(condition_holds(
+                        &survey, dimensions, height, gross, slabs, counts
+                    ));
+                }
+            }
+        }
+    }
+}
+
+/// The check is not empty: with many slabs, a gross row that is off by more
+/// than the tolerance and what the slabs leave open is found out.
+#[test]
+fn a_wrong_gross_row_fails() {
+    let survey = tank_of(1, 50_000, 100_000, 5_000, 30_000);
+    let dimensions = Dimensions {
+        d1: 50_000,
+        d2: 51_000,
+    };
+    let tank = Tank::new(&survey, dimensions);
+    let counts = Counts {
+        shell: 20_000,
+        flanges: 20_000,
+        heads: 20_000,
+    };
+    let room = (tolerance(&survey, dimensions) / CUBIC_U_IN_V) as u64 + 10;
+    for height in row_heights(survey.dh, survey.step) {
+        let gross = tank.gross(height);
+        let holds =
+            |gross, slabs| condition_holds(&survey, dimensions, height, gross, slabs, counts);
+        assert!(holds(gross, Slabs::Fitting) && holds(gross, Slabs::Covering));
+        assert!(!holds(gross + room, Slabs::Covering));
+        if gross > room {
+            assert!(!holds(gross - room, Slabs::Fitting));
+        }
+    }
+}
+
+#[test]
+fn one_slab_by_hand() {
+    // D = 50,000, H = 25,000, one slab: it contains D/2 as its upper face.
+    // Fitting: the smaller face is 0. Covering: 50,000 · L1 · 25,000 cubic u.
+    let survey = tank_of(0, 50_000, 100_000, 0, 0);
+    let dimensions = Dimensions {
+        d1: 50_000,
+        d2: 50_000,
+    };
+    let one = Counts {
+        shell: 1,
+        flanges: 1,
+        heads: 1,
+    };
+    let height = DipHeight(25_000);
+    let fitting = reference::slabs::total(&survey, dimensions, height, Slabs::Fitting, one);
+    assert_eq!(fitting.top, Big::new(0));
+    let covering = reference::slabs::total(&survey, dimensions, height, Slabs::Covering, one);
+    let by_hand = covering
+        .bottom
+        .times(&Big::product(&[50_000, 100_000, 25_000]));
+    assert_eq!(covering.top, by_hand);
+}
+
+#[test]
+fn big_numbers_agree_with_plain_ones() {
+    let mut random = Random::new(5);
+    for _ in 0..10_000 {
+        let shift = random.between(0, 63);
+        let a = u128::from(random.any() >> shift);
+        let shift = random.between(0, 63);
+        let b = u128::from(random.any() >> shift);
+        assert_eq!(Big::new(a).times(&Big::new(b)), Big::new(a * b));
+        assert_eq!(Big::new(a).plus(&Big::new(b)), Big::new(a + b));
+        assert_eq!(Big::new(a).compare(&Big::new(b)), a.cmp(&b));
+        // (a·2^64 + b)·(a·2^64 + b) and a·a·2^128 + 2·a·b·2^64 + b·b.
+        let long = Big::new((a << 64) + b);
+        let top = Big::product(&[a, a, 1 << 64, 1 << 64]);
+        let middle = Big::product(&[2, a, b, 1 << 64]);
+        let low = Big::product(&[b, b]);
+        assert_eq!(long.times(&long), top.plus(&middle).plus(&low));
+    }
+}

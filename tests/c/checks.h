@@ -1,0 +1,9 @@
+/* The groups of checks that the program runs. */
+#ifndef CHECKS_H
+#define CHECKS_H
+
+void table_checks(void);
+void lookup_checks(void);
+void thread_checks(void);
+
+#endif

@@ -1,0 +1,146 @@
+/* milechime_table: the paper's table, refusals with their places, and what is
+ * left of the lent cells. */
+#include "checks.h"
+
+#include "check.h"
+#include "lent.h"
+#include "milechime.h"
+#include "paper.h"
+
+#include <stdbool.h>
+#include <stdlib.h>
+
+static bool answers(struct milechime_table_answer a, uint32_t refusal, uint32_t place,
+                    uint32_t d1, uint32_t d2, uint32_t rows)
+{
+    return a.refusal == refusal && a.place == place && a.d1 == d1 && a.d2 == d2 && a.rows == rows;
+}
+
+static bool untouched_from(const uint32_t *cells, size_t from, size_t count)
+{
+    for (size_t i = from; i < count; i++)
+        if (cells[i] != untouched(i))
+            return false;
+    return true;
+}
+
+static bool holds_the_paper_rows(const uint32_t *cells)
+{
+    for (size_t i = 0; i < PAPER_ROWS; i++)
+        if (cells[i] != paper_rows[i])
+            return false;
+    return true;
+}
+
+/* A survey that is refused, with a table that would be long enough. */
+static void refused(const uint8_t *survey, size_t length, uint32_t refusal, uint32_t place, const char *what)
+{
+    enum { CELLS = 10 };
+    uint32_t *cells = lent_cells(CELLS);
+    struct milechime_table_answer a = milechime_table(lent_bytes(survey, length), length, cells, CELLS);
+    check(answers(a, refusal, place, 0, 0, 0) && untouched_from(cells, 0, CELLS), what);
+}
+
+/* The paper's survey with one number exchanged. */
+static void refused_with(size_t at, uint32_t number, uint32_t refusal, uint32_t place, const char *what)
+{
+    uint8_t survey[PAPER_BYTES];
+    paper_survey(survey);
+    put(survey, at, number);
+    refused(survey, PAPER_BYTES, refusal, place, what);
+}
+
+/* The paper's survey with one deadwood item behind the course, at byte 64. */
+static void with_deadwood(uint8_t *survey, uint32_t low, uint32_t high, int32_t volume)
+{
+    paper_survey(survey);
+    put(survey, 40, 1);
+    put(survey, 44, PAPER_BYTES);
+    put(survey, PAPER_BYTES, low);
+    put(survey, PAPER_BYTES + 4, high);
+    put(survey, PAPER_BYTES + 8, (uint32_t)volume);
+}
+
+static void accepted_surveys(void)
+{
+    enum { MORE = PAPER_ROWS + 5, ITEM_BYTES = PAPER_BYTES + 12 };
+    uint8_t survey[ITEM_BYTES];
+    paper_survey(survey);
+
+    uint32_t *cells = lent_cells(PAPER_ROWS);
+    struct milechime_table_answer a =
+        milechime_table(lent_bytes(survey, PAPER_BYTES), PAPER_BYTES, cells, PAPER_ROWS);
+    check(answers(a, 0, 0, 50000, 50000, PAPER_ROWS), "the paper's survey is accepted: D1, D2 and six rows");
+    check(holds_the_paper_rows(cells), "the table holds the paper's six rows");
+
+    cells = lent_cells(MORE);
+    a = milechime_table(lent_bytes(survey, PAPER_BYTES), PAPER_BYTES, cells, MORE);
+    check(answers(a, 0, 0, 50000, 50000, PAPER_ROWS) && holds_the_paper_rows(cells), "a longer table holds the same rows");
+    check(untouched_from(cells, PAPER_ROWS, MORE), "cells behind the rows stay");
+
+    with_deadwood(survey, 10000, 30000, 1000);
+    cells = lent_cells(PAPER_ROWS);
+    a = milechime_table(lent_bytes(survey, ITEM_BYTES), ITEM_BYTES, cells, PAPER_ROWS);
+    check(a.refusal == 0 && cells[1] == 2796 && cells[2] == 7334 - 500 && cells[5] == 19635 - 1000,
+          "deadwood takes its share from the rows");
+
+    with_deadwood(survey, 0, 10000, 5000);
+    refused(survey, ITEM_BYTES, 9, 1, "deadwood larger than the first rows: refusal 9 at row 1");
+}
+
+static void refused_surveys(void)
+{
+    uint8_t survey[PAPER_BYTES];
+    paper_survey(survey);
+    refused(survey, 0, 1, 0, "no byte: refusal 1");
+    refused(survey, 47, 1, 0, "47 bytes: refusal 1");
+    refused(survey, 48, 3, 0, "48 bytes, the course outside: refusal 3");
+
+    enum { LONG = 70000 };
+    uint8_t *file = calloc(LONG, 1);
+    if (file == NULL)
+        exit(2);
+    paper_survey(file);
+    refused(file, LONG, 1, 0, "70,000 bytes: refusal 1");
+    refused(file, MILECHIME_LARGEST_SURVEY + 1, 1, 0, "65,537 bytes: refusal 1");
+    uint32_t *cells = lent_cells(PAPER_ROWS);
+    uint8_t *largest = lent_bytes(file, MILECHIME_LARGEST_SURVEY);
+    struct milechime_table_answer a = milechime_table(largest, MILECHIME_LARGEST_SURVEY, cells, PAPER_ROWS);
+    check(a.refusal == 0 && holds_the_paper_rows(cells), "65,536 bytes are not too many");
+    free(file);
+
+    refused_with(32, 0, 2, 0, "no course: refusal 2");
+    refused_with(32, 41, 2, 0, "41 courses: refusal 2");
+    refused_with(40, 65, 2, 0, "65 deadwood items: refusal 2");
+    refused_with(36, 47, 3, 0, "courses inside the header: refusal 3");
+    refused_with(36, 0xFFFFFFF0u, 3, 0, "courses far outside the file: refusal 3");
+    refused_with(0, 2, 4, 0, "head kind 2: refusal 4");
+    refused_with(4, 49999, 5, 4, "DH 49,999: refusal 5 at byte 4");
+    refused_with(24, 1, 5, 24, "a flat head with a length: refusal 5 at byte 24");
+    refused_with(60, 5001, 5, 60, "a wall too thick: refusal 5 at byte 60");
+    refused_with(8, 100001, 6, 0, "courses shorter than the shell: refusal 6");
+    refused_with(4, 60001, 7, 0, "D1 more than 10,000 below DH: refusal 7");
+}
+
+static void short_tables(void)
+{
+    uint8_t bytes[PAPER_BYTES];
+    paper_survey(bytes);
+    uint8_t *survey = lent_bytes(bytes, PAPER_BYTES);
+
+    uint32_t *cells = lent_cells(PAPER_ROWS - 1);
+    struct milechime_table_answer a = milechime_table(survey, PAPER_BYTES, cells, PAPER_ROWS - 1);
+    check(answers(a, 8, 0, 0, 0, 0) && untouched_from(cells, 0, PAPER_ROWS - 1), "five cells for six rows: refusal 8");
+    check(answers(milechime_table(survey, PAPER_BYTES, NULL, 0), 8, 0, 0, 0, 0), "no table: refusal 8");
+    check(answers(milechime_table(NULL, 0, NULL, 0), 1, 0, 0, 0, 0), "no survey and no table: refusal 1");
+    cells = lent_cells(PAPER_ROWS);
+    check(answers(milechime_table(NULL, 0, cells, PAPER_ROWS), 1, 0, 0, 0, 0) && untouched_from(cells, 0, PAPER_ROWS),
+          "no survey: refusal 1");
+}
+
+void table_checks(void)
+{
+    accepted_surveys();
+    refused_surveys();
+    short_tables();
+}
