@@ -1,6 +1,6 @@
 #!/usr/bin/env bash
-# Holds the proved library to its C header and to the independent reference program: builds the archive and the program
-# tanktable, runs the C test, the reference's own tests, and the comparison of both over generated surveys and lookups.
+# Holds the proved library to its C header and to the independent reference program: builds the archive and the programs, runs
+# the C test, the reference's own tests, and the comparison of both over generated surveys and lookups.
 # Everything that is built or written goes to target/.
 set -euo pipefail
 cd "$(dirname "$0")/.."
@@ -25,8 +25,8 @@ quietly() {
 
 mkdir -p target/c
 
-step "tanktable and libcapi.a"
-quietly rt check tanktable
+step "the programs and libcapi.a"
+quietly rt check tanktable tanklookup
 quietly rt staticlib capi
 archive=target/staticlib/libcapi.a
 
@@ -50,6 +50,6 @@ step "the comparison"
 source tests/archive_flags.sh
 quietly cargo build --release --locked --jobs 2 --manifest-path reference/compare/Cargo.toml
 rm -rf target/mismatches
-target/cargo/release/compare target/bin/tanktable target/mismatches
+target/cargo/release/compare target/bin/tanktable target/bin/tanklookup target/mismatches
 
 step "done"

@@ -1,7 +1,8 @@
 //! What the programs print, and the decimals they read.
 
+use crate::lookup::{height_for_volume, litres_at_height};
 use crate::refusal::Refusal;
-use crate::rows::row_heights;
+use crate::rows::{row_heights, MOST_ROWS};
 use crate::survey::parse;
 use crate::table::make_table;
 
@@ -44,5 +45,30 @@ pub fn printed_table(survey: &[u8], table_len: usize) -> String {
             }
             lines
         }
+    }
+}
+
+/// What is looked up in a survey's table.
+#[derive(Clone, Copy)]
+pub enum Asked {
+    LitresAt(u32),
+    HeightFor(u32),
+}
+
+/// All that the lookup program prints for a survey: the figure, or the line of
+/// a refusal.
+pub fn printed_lookup(survey: &[u8], asked: Asked) -> String {
+    match look_up(survey, asked) {
+        Ok(figure) => format!("{}\n", two_decimals(figure)),
+        Err(refusal) => refusal_line(refusal),
+    }
+}
+
+fn look_up(file: &[u8], asked: Asked) -> Result<u32, Refusal> {
+    let table = make_table(file, MOST_ROWS)?;
+    let survey = parse(file)?;
+    match asked {
+        Asked::LitresAt(height) => litres_at_height(survey.dh, survey.step, &table.rows, height),
+        Asked::HeightFor(volume) => height_for_volume(survey.dh, survey.step, &table.rows, volume),
     }
 }

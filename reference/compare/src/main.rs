@@ -2,15 +2,16 @@
 //! compares every number of every answer, every cell of every lent table, and
 //! what both programs print.
 //!
-//! `compare PROGRAM FOLDER`: the path of `tanktable`, and a folder for the
-//! surveys on which the two differ. Ends with 1 if they differ anywhere, or if
-//! a refusal that can occur was seen too seldom.
+//! `compare TANKTABLE TANKLOOKUP FOLDER`: the paths of the programs, and a
+//! folder for the surveys on which the two differ. Ends with 1 if they differ
+//! anywhere, or if a refusal that can occur was seen too seldom.
 
 mod lookups;
 mod printed;
 mod seen;
 mod surveys;
 
+use printed::Programs;
 use seen::Seen;
 use std::path::PathBuf;
 
@@ -25,9 +26,15 @@ const PRINTED_SEED: u64 = 21;
 
 fn main() {
     let mut words = std::env::args_os().skip(1).map(PathBuf::from);
-    let (Some(program), Some(folder), None) = (words.next(), words.next(), words.next()) else {
-        eprintln!("usage: compare PROGRAM FOLDER");
+    let (Some(table), Some(lookup), Some(folder), None) =
+        (words.next(), words.next(), words.next(), words.next())
+    else {
+        eprintln!("usage: compare TANKTABLE TANKLOOKUP FOLDER");
         std::process::exit(2);
+    };
+    let programs = Programs {
+        table: &table,
+        lookup: &lookup,
     };
 
     let mut mismatches = 0;
@@ -43,8 +50,10 @@ fn main() {
     }
     often_enough &= lookups_seen.print("lookups");
 
-    mismatches += printed::compare(PRINTED_SEED, PRINTED, &program, &folder);
-    println!("printed tables and refusals: {PRINTED} compared");
+    mismatches += printed::compare(PRINTED_SEED, PRINTED, &programs, &folder);
+    println!(
+        "surveys of which the printed table and both printed lookups were compared: {PRINTED}"
+    );
 
     println!("mismatches: {mismatches}");
     if mismatches != 0 || !often_enough {
