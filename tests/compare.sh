@@ -1,6 +1,6 @@
 #!/usr/bin/env bash
 # Holds the proved library to its C header and to the independent reference program: builds the archive and the programs, runs
-# the C test, the reference's own tests, and the comparison of both over generated surveys and lookups.
+# the C test, the reference's own tests, those of the Rust wrapper, and the comparison of both over generated surveys and lookups.
 # Everything that is built or written goes to target/.
 set -euo pipefail
 cd "$(dirname "$0")/.."
@@ -45,9 +45,13 @@ step "the reference's own tests"
 quietly cargo test --locked --jobs 2 --manifest-path reference/Cargo.toml
 grep '^test result' target/compare.log | grep -v ' 0 passed'
 
-step "the comparison"
+step "the Rust wrapper's tests"
 # shellcheck source=tests/archive_flags.sh
 source tests/archive_flags.sh
+quietly cargo test --release --locked --jobs 2 --manifest-path reference/compare/Cargo.toml
+grep '^test result' target/compare.log | grep -v ' 0 passed'
+
+step "the comparison"
 quietly cargo build --release --locked --jobs 2 --manifest-path reference/compare/Cargo.toml
 rm -rf target/mismatches
 target/cargo/release/compare target/bin/tanktable target/bin/tanklookup target/mismatches
