@@ -9,3 +9,4 @@ pub mod Tests
 pub mod Cell
 pub mod Answer
 pub mod Kept
+pub mod BelowZero
