@@ -1,6 +1,8 @@
 -- `measure::shell_height::ShellHeight::corrected` meets its contract: the numbers that its quantities hold go through
 -- `corrected_units`. Assumes nothing.
+use mathlib.Core.Path.{ap}
 use borrow.Author.Needs.{needs}
+use Rattle.measure.specs.Quantity.{shellHeight}
 use Rattle.measure.proofs.shell_height.ShellHeight.corrected.Statement.{statement}
 use Rattle.measure.proofs.shell_height.ShellHeight.corrected.Tie as tie
 
@@ -17,7 +19,11 @@ corrected-units-requires : tie.Need-corrected-units-requires
 corrected-units-requires c κs = search needs
 
 returns : tie.Need-returns
-returns c = cc
+returns c =
+    let part = c .before .before .before .units .ensures in
+    let dip-point = c .before .before .units2 .ensures in
+    let height = c .before .units3 .ensures in
+    rw (← part, ← dip-point, ← height) (ap shellHeight (c .corrected-units .ensures))
 
 pub corrected-spec : {M : Type 1} → statement M
 corrected-spec =
