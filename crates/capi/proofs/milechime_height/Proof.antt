@@ -8,15 +8,6 @@ use Rattle.capi.specs.Reached.{lowest-answered}
 use Rattle.capi.proofs.milechime_height.Statement.{statement}
 use Rattle.capi.proofs.milechime_height.Tie as tie
 
-of-requires : tie.Need-of-requires
-of-requires c κs = search needs
-
-height-for-requires : tie.Need-height-for-requires
-height-for-requires c κs = search needs
-
-height-numbers-requires : tie.Need-height-numbers-requires
-height-numbers-requires c κs = search needs
-
 returns : tie.Need-returns
 returns c =
     let a = c .before .before .before .before .args in
@@ -28,4 +19,5 @@ returns c =
 
 pub milechime-height-spec : {M : Type 1} → statement M
 milechime-height-spec =
-    tie.close (tie.spec of-requires height-for-requires height-numbers-requires returns)
+    tie.close
+    (tie.spec (λ c κs. search needs) (λ c κs. search needs) (λ c κs. search needs) returns)

@@ -7,15 +7,6 @@ use Rattle.capi.specs.Numbers.{litresNumbers}
 use Rattle.capi.proofs.milechime_litres.Statement.{statement}
 use Rattle.capi.proofs.milechime_litres.Tie as tie
 
-of-requires : tie.Need-of-requires
-of-requires c κs = search needs
-
-litres-at-requires : tie.Need-litres-at-requires
-litres-at-requires c κs = search needs
-
-litres-numbers-requires : tie.Need-litres-numbers-requires
-litres-numbers-requires c κs = search needs
-
 returns : tie.Need-returns
 returns c =
     let a = c .before .before .before .before .args in
@@ -24,4 +15,5 @@ returns c =
 
 pub milechime-litres-spec : {M : Type 1} → statement M
 milechime-litres-spec =
-    tie.close (tie.spec of-requires litres-at-requires litres-numbers-requires returns)
+    tie.close
+    (tie.spec (λ c κs. search needs) (λ c κs. search needs) (λ c κs. search needs) returns)

@@ -8,15 +8,6 @@ use Rattle.capi.specs.Slabs.{counted}
 use Rattle.capi.proofs.milechime_table.Statement.{statement}
 use Rattle.capi.proofs.milechime_table.Tie as tie
 
-make-table-requires : tie.Need-make-table-requires
-make-table-requires c κs = search needs
-
-table-numbers-requires : tie.Need-table-numbers-requires
-table-numbers-requires c κs = search needs
-
-same-length : tie.Need-same-length
-same-length c = search needs
-
 returns : tie.Need-returns
 returns c =
     let a = c .before .before .before .before .before .before .before .args in
@@ -25,5 +16,4 @@ returns c =
     (numbers, (told .1 .0, rw numbers (counted (a .survey .now) (length (a .table .now)) _ (rw (told .0) at (told .1 .1)))))
 
 pub milechime-table-spec : {M : Type 1} → statement M
-milechime-table-spec =
-    tie.close (tie.spec make-table-requires table-numbers-requires same-length returns)
+milechime-table-spec = tie.close (tie.spec (λ c κs. search needs) (λ c κs. search needs) (λ c. search needs) returns)

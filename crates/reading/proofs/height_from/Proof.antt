@@ -16,15 +16,6 @@ use Rattle.reading.proofs.height_from.Tie as tie
 ready : (c : tie.After-enum-told) → Ready (c .before .before .before .before .before .args .survey .now) (c .before .before .before .tabulate .result)
 ready c = c .before .before .before .tabulate .ensures .ready (c .enum-told .given .1)
 
-tabulate-requires : tie.Need-tabulate-requires
-tabulate-requires c κs = search needs
-
-enum-known-verdict : tie.Need-enum-known-verdict
-enum-known-verdict c = search needs
-
-enum-told : tie.Need-enum-told
-enum-told c = search needs
-
 array-share-prefix-table : tie.Need-array-share-prefix-table
 array-share-prefix-table c = ready c .inside
 
@@ -32,9 +23,6 @@ slice-aggregate-height-for : tie.Need-slice-aggregate-height-for
 slice-aggregate-height-for c =
     let t = c .before .before .before .before .tabulate .result in
     sym (length-take-le (t .rows) (t .table) (ready (c .before) .inside))
-
-height-for-requires : tie.Need-height-for-requires
-height-for-requires c κs = search needs
 
 returns : tie.Need-returns
 unfolding heightFrom
@@ -57,12 +45,5 @@ returns-2 c =
 pub height-from-spec : {M : Type 1} → statement M
 height-from-spec =
     tie.close
-    (tie.spec
-    tabulate-requires
-    enum-known-verdict
-    enum-told
-    array-share-prefix-table
-    slice-aggregate-height-for
-    height-for-requires
-    returns
-    returns-2)
+    (tie.spec (λ c κs. search needs) (λ c. search needs) (λ c. search needs) array-share-prefix-table
+    slice-aggregate-height-for (λ c κs. search needs) returns returns-2)

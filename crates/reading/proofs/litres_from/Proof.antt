@@ -16,15 +16,6 @@ use Rattle.reading.proofs.litres_from.Tie as tie
 ready : (c : tie.After-enum-told) → Ready (c .before .before .before .before .before .args .survey .now) (c .before .before .before .tabulate .result)
 ready c = c .before .before .before .tabulate .ensures .ready (c .enum-told .given .1)
 
-tabulate-requires : tie.Need-tabulate-requires
-tabulate-requires c κs = search needs
-
-enum-known-verdict : tie.Need-enum-known-verdict
-enum-known-verdict c = search needs
-
-enum-told : tie.Need-enum-told
-enum-told c = search needs
-
 array-share-prefix-table : tie.Need-array-share-prefix-table
 array-share-prefix-table c = ready c .inside
 
@@ -32,9 +23,6 @@ slice-aggregate-litres-at : tie.Need-slice-aggregate-litres-at
 slice-aggregate-litres-at c =
     let t = c .before .before .before .before .tabulate .result in
     sym (length-take-le (t .rows) (t .table) (ready (c .before) .inside))
-
-litres-at-requires : tie.Need-litres-at-requires
-litres-at-requires c κs = search needs
 
 returns : tie.Need-returns
 unfolding litresFrom
@@ -57,12 +45,5 @@ returns-2 c =
 pub litres-from-spec : {M : Type 1} → statement M
 litres-from-spec =
     tie.close
-    (tie.spec
-    tabulate-requires
-    enum-known-verdict
-    enum-told
-    array-share-prefix-table
-    slice-aggregate-litres-at
-    litres-at-requires
-    returns
-    returns-2)
+    (tie.spec (λ c κs. search needs) (λ c. search needs) (λ c. search needs) array-share-prefix-table
+    slice-aggregate-litres-at (λ c κs. search needs) returns returns-2)

@@ -22,26 +22,11 @@ table-told c = made-table (c .before .before .before .before .before .before .ar
 sound-file : (c : tie.After-made2) → Accepted (c .before .before .before .before .before .before .args .survey .now)
 sound-file c = accepted-table (c .before .before .before .before .before .before .args .survey .now) 5001 (table-told c .0)
 
-slice-aggregate-make-table : tie.Need-slice-aggregate-make-table
-slice-aggregate-make-table c = search needs
-
-make-table-requires : tie.Need-make-table-requires
-make-table-requires c κs = search needs
-
-enum-known-made : tie.Need-enum-known-made
-enum-known-made c = search needs
-
-enum-known-made-2 : tie.Need-enum-known-made-2
-enum-known-made-2 c = search needs
-
 word-requires : tie.Need-word-requires
 word-requires c κs = omega (arith, sound-file (c .before) .header)
 
 word-requires-2 : tie.Need-word-requires-2
 word-requires-2 c κs = omega (arith, sound-file (c .before .before) .header)
-
-cast-t14 : tie.Need-cast-t14
-cast-t14 c = search needs
 
 returns : tie.Need-returns
 returns c =
@@ -69,13 +54,5 @@ returns-2 c =
 pub tabulate-spec : {M : Type 1} → statement M
 tabulate-spec =
     tie.close
-    (tie.spec
-    slice-aggregate-make-table
-    make-table-requires
-    enum-known-made
-    enum-known-made-2
-    word-requires
-    word-requires-2
-    cast-t14
-    returns
-    returns-2)
+    (tie.spec (λ c. search needs) (λ c κs. search needs) (λ c. search needs) (λ c. search needs) word-requires
+    word-requires-2 (λ c. search needs) returns returns-2)

@@ -6,17 +6,11 @@ use Rattle.schedule.specs.Rows.{count-even, count-odd}
 use Rattle.schedule.proofs.row_count.Statement.{statement}
 use Rattle.schedule.proofs.row_count.Tie as tie
 
-div-whole : tie.Need-div-whole
-div-whole c = search needs
-
 cast-whole : tie.Need-cast-whole
 cast-whole c = omega (arith, div-le-self (c .args .dh) (c .args .step))
 
 add-whole : tie.Need-add-whole
 add-whole c = omega (arith, div-le-self (c .args .dh) (c .args .step))
-
-rem-if1 : tie.Need-rem-if1
-rem-if1 c = search needs
 
 add-result : tie.Need-add-result
 add-result c = omega (arith, div-le-self (c .before .args .dh) (c .before .args .step))
@@ -29,4 +23,5 @@ returns-2 c = omega (arith, count-odd (c .before .args .dh) (c .before .args .st
 
 pub row-count-spec : {M : Type 1} → statement M
 row-count-spec =
-    tie.close (tie.spec div-whole cast-whole add-whole rem-if1 add-result returns returns-2)
+    tie.close
+    (tie.spec (λ c. search needs) cast-whole add-whole (λ c. search needs) add-result returns returns-2)

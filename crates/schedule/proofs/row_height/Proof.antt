@@ -11,15 +11,6 @@ use Rattle.schedule.proofs.row_height.Tie as tie
 mul-h : tie.Need-mul-h
 mul-h c = omega (arith, steps-at-most (c .args .dh) (c .args .step) (c .pre .0) (c .args .i) (c .pre .1))
 
-cast-of : tie.Need-cast-of
-cast-of c = search needs
-
-of-requires : tie.Need-of-requires
-of-requires c κs = search needs
-
-of-requires-2 : tie.Need-of-requires-2
-of-requires-2 c κs = search needs
-
 returns : tie.Need-returns
 unfolding rowHeight
 returns c = c .of .ensures ∙ ap dipHeight (sym (min-eq-left (le-of-lt (c .before .if1 .taken))))
@@ -29,4 +20,6 @@ unfolding rowHeight
 returns-2 c = c .of2 .ensures ∙ ap dipHeight (sym (min-eq-right (c .before .if1 .left)))
 
 pub row-height-spec : {M : Type 1} → statement M
-row-height-spec = tie.close (tie.spec mul-h cast-of of-requires of-requires-2 returns returns-2)
+row-height-spec =
+    tie.close
+    (tie.spec mul-h (λ c. search needs) (λ c κs. search needs) (λ c κs. search needs) returns returns-2)

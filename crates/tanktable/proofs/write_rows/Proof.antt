@@ -15,12 +15,6 @@ abbrev μ-loop : tie.MeasureT-loop
 few : (c : tie.After-row-count Inv-loop μ-loop) → c .row-count .result ≤ 5001
 few c = rw (c .row-count .ensures) (few-rows (c .before .before .args .dh) (c .before .before .args .step) (c .before .before .pre .0) (c .before .before .pre .1))
 
-row-count-requires : tie.Need-row-count-requires Inv-loop μ-loop
-row-count-requires c κs = omega arith
-
-loop-holds : tie.Need-loop-holds Inv-loop μ-loop
-loop-holds c = omega arith
-
 row-height-requires : tie.Need-row-height-requires Inv-loop μ-loop
 row-height-requires c κs = omega (arith, c .before .before .row-count .ensures)
 
@@ -42,30 +36,12 @@ write-line-requires c κs = omega (arith, c .row-line .ensures .count, c .row-li
 add-i : tie.Need-add-i Inv-loop μ-loop
 add-i c = omega (arith, few (c .before .before .before .before .before .before .before))
 
-loop-less : tie.Need-loop-less Inv-loop μ-loop
-loop-less c = omega arith
-
-loop-again : tie.Need-loop-again Inv-loop μ-loop
-loop-again c = omega arith
-
 returns : tie.Need-returns Inv-loop μ-loop
 returns c = tt
 
 pub write-rows-spec : {M : Type 1} → statement M
 write-rows-spec =
     tie.close
-    (tie.spec
-    Inv-loop
-    μ-loop
-    row-count-requires
-    loop-holds
-    row-height-requires
-    units-requires
-    mul-row-line
-    shared-slice-read-row-line
-    row-line-requires
-    write-line-requires
-    add-i
-    loop-less
-    loop-again
+    (tie.spec Inv-loop μ-loop (λ c κs. omega arith) (λ c. omega arith) row-height-requires units-requires mul-row-line
+    shared-slice-read-row-line row-line-requires write-line-requires add-i (λ c. omega arith) (λ c. omega arith)
     returns)

@@ -6,15 +6,6 @@ use borrow.Author.Needs.{needs}
 use Rattle.tanktable.proofs.write_table.Statement.{statement}
 use Rattle.tanktable.proofs.write_table.Tie as tie
 
-decode-requires : tie.Need-decode-requires
-decode-requires c κs = search needs
-
-enum-known-decoded : tie.Need-enum-known-decoded
-enum-known-decoded c = search needs
-
-units-requires : tie.Need-units-requires
-units-requires c κs = search needs
-
 write-rows-requires : tie.Need-write-rows-requires
 write-rows-requires c κs =
     let start = c .before .before .before .before .before .before .before .before in
@@ -22,23 +13,8 @@ write-rows-requires c κs =
     let known = accepted (start .args .survey .now) (told .0) in
     (rw (c .units .ensures, told .1) (known .dhHigh), rw (told .1) (known .stepLow), start .pre)
 
-enum-told : tie.Need-enum-told
-enum-told c = search needs
-
-returns : tie.Need-returns
-returns c = search needs
-
-returns-2 : tie.Need-returns-2
-returns-2 c = search needs
-
 pub write-table-spec : {M : Type 1} → statement M
 write-table-spec =
     tie.close
-    (tie.spec
-    decode-requires
-    enum-known-decoded
-    units-requires
-    write-rows-requires
-    enum-told
-    returns
-    returns-2)
+    (tie.spec (λ c κs. search needs) (λ c. search needs) (λ c κs. search needs) write-rows-requires
+    (λ c. search needs) (λ c. search needs) (λ c. search needs))

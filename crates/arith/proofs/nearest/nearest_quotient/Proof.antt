@@ -9,12 +9,6 @@ use Rattle.laws.specs.Nearest.{nearest}
 use Rattle.arith.proofs.nearest.nearest_quotient.Statement.{statement}
 use Rattle.arith.proofs.nearest.nearest_quotient.Tie as tie
 
-div-round-rest : tie.Need-div-round-rest
-div-round-rest c = search needs
-
-rem-round-rest : tie.Need-rem-round-rest
-rem-round-rest c = search needs
-
 round-rest-requires : tie.Need-round-rest-requires
 round-rest-requires c κs =
     (mod-lt (c .args .dividend) (c .pre .0), omega (arith, div-le-self (c .args .dividend) (c .args .divisor)))
@@ -25,5 +19,4 @@ returns c =
     c .round-rest .ensures ∙ ap (λ (n : ℕ). nearest n (a .divisor)) (div-add-mod' (a .dividend) (a .divisor))
 
 pub nearest-quotient-spec : {M : Type 1} → statement M
-nearest-quotient-spec =
-    tie.close (tie.spec div-round-rest rem-round-rest round-rest-requires returns)
+nearest-quotient-spec = tie.close (tie.spec (λ c. search needs) (λ c. search needs) round-rest-requires returns)

@@ -8,12 +8,6 @@ use Rattle.laws.specs.Nearest.{nearest-of-rest}
 use Rattle.arith.proofs.nearest.round_rest.Statement.{statement}
 use Rattle.arith.proofs.nearest.round_rest.Tie as tie
 
-sub-if1 : tie.Need-sub-if1
-sub-if1 c = search needs
-
-add-result : tie.Need-add-result
-add-result c = search needs
-
 returns : tie.Need-returns
 returns c =
     let a = c .before .args in
@@ -27,4 +21,4 @@ returns-2 c =
     sym (nearest-of-rest (a .quotient) (a .rest) (a .divisor) (c .before .pre .0) ∙ pick-gt _ _ down)
 
 pub round-rest-spec : {M : Type 1} → statement M
-round-rest-spec = tie.close (tie.spec sub-if1 add-result returns returns-2)
+round-rest-spec = tie.close (tie.spec (λ c. search needs) (λ c. search needs) returns returns-2)

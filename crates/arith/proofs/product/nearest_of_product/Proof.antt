@@ -8,9 +8,6 @@ use Rattle.arith.specs.Quotient.{quotient-at-most}
 use Rattle.arith.proofs.product.nearest_of_product.Statement.{statement}
 use Rattle.arith.proofs.product.nearest_of_product.Tie as tie
 
-divided-requires : tie.Need-divided-requires
-divided-requires c κs = search needs
-
 round-rest-requires : tie.Need-round-rest-requires
 round-rest-requires c κs = omega (arith, quotient-at-most (c .before .pre .0) (c .divided .ensures))
 
@@ -19,4 +16,4 @@ returns c =
     c .round-rest .ensures ∙ ap (λ (n : ℕ). nearest n (c .before .before .args .divisor)) (c .before .divided .ensures .whole)
 
 pub nearest-of-product-spec : {M : Type 1} → statement M
-nearest-of-product-spec = tie.close (tie.spec divided-requires round-rest-requires returns)
+nearest-of-product-spec = tie.close (tie.spec (λ c κs. search needs) round-rest-requires returns)

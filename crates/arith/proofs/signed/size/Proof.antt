@@ -40,8 +40,5 @@ cast-result-2 c =
     let (n, e) = natural z (rw plain at (c .if1 .left)) in
     rw (plain, e) (tt, omega (arith, ap mag e))
 
-returns-2 : tie.Need-returns-2
-returns-2 c = search needs
-
 pub size-spec : {M : Type 1} → statement M
-size-spec = tie.close (tie.spec sub-result cast-result returns cast-result-2 returns-2)
+size-spec = tie.close (tie.spec sub-result cast-result returns cast-result-2 (λ c. search needs))

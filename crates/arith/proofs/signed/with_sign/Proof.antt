@@ -16,9 +16,6 @@ use Rattle.arith.proofs.signed.with_sign.Tie as tie
 turned : (n : ℕ) → n < 2 ^ 32 → pos 0 -ℤ toZ w64 n ≡ negℤ (pos n)
 turned n l = ap (λ z. pos 0 -ℤ z) (toZ-pos w64 n (omega arith)) ∙ +ℤ-idl (negℤ (pos n))
 
-cast-result : tie.Need-cast-result
-cast-result c = search needs
-
 sub-result : tie.Need-sub-result
 sub-result c =
     let n = c .before .args .n in
@@ -32,9 +29,6 @@ returns c =
     rw (turned n (c .before .fits .n .fits), e)
     (toZ-ofZ w64 (negℤ (pos n)) (small-fits (omega (arith, negated-size (pos n), c .before .fits .n .fits))))
 
-cast-result-2 : tie.Need-cast-result-2
-cast-result-2 c = search needs
-
 returns-2 : tie.Need-returns-2
 returns-2 c =
     let z = c .before .args .z in
@@ -43,4 +37,4 @@ returns-2 c =
     rw e (toZ-pos w64 n (omega (arith, c .before .fits .n .fits)))
 
 pub with-sign-spec : {M : Type 1} → statement M
-with-sign-spec = tie.close (tie.spec cast-result sub-result returns cast-result-2 returns-2)
+with-sign-spec = tie.close (tie.spec (λ c. search needs) sub-result returns (λ c. search needs) returns-2)

@@ -5,15 +5,6 @@ use Rattle.capi.specs.Numbers.{litresNumbers}
 use Rattle.capi.proofs.numbers.litres_numbers.Statement.{statement}
 use Rattle.capi.proofs.numbers.litres_numbers.Tie as tie
 
-enum-known-answer : tie.Need-enum-known-answer
-enum-known-answer c = search needs
-
-units-requires : tie.Need-units-requires
-units-requires c κs = search needs
-
-enum-known-answer-2 : tie.Need-enum-known-answer-2
-enum-known-answer-2 c = search needs
-
 returns : tie.Need-returns
 returns c = rw (c .before .before .answer .given .1, c .units .ensures)
 
@@ -22,4 +13,5 @@ returns-2 c = sym (ap litresNumbers (c .before .answer2 .given .1))
 
 pub litres-numbers-spec : {M : Type 1} → statement M
 litres-numbers-spec =
-    tie.close (tie.spec enum-known-answer units-requires enum-known-answer-2 returns returns-2)
+    tie.close
+    (tie.spec (λ c. search needs) (λ c κs. search needs) (λ c. search needs) returns returns-2)

@@ -5,18 +5,6 @@ use Rattle.capi.specs.Numbers.{tableNumbers}
 use Rattle.capi.proofs.numbers.table_numbers.Statement.{statement}
 use Rattle.capi.proofs.numbers.table_numbers.Tie as tie
 
-enum-known-answer : tie.Need-enum-known-answer
-enum-known-answer c = search needs
-
-units-requires : tie.Need-units-requires
-units-requires c κs = search needs
-
-units-requires-2 : tie.Need-units-requires-2
-units-requires-2 c κs = search needs
-
-enum-known-answer-2 : tie.Need-enum-known-answer-2
-enum-known-answer-2 c = search needs
-
 returns : tie.Need-returns
 returns c = rw (c .before .before .before .answer .given .1, c .before .units .ensures, c .units2 .ensures)
 
@@ -26,10 +14,4 @@ returns-2 c = sym (ap tableNumbers (c .before .answer2 .given .1))
 pub table-numbers-spec : {M : Type 1} → statement M
 table-numbers-spec =
     tie.close
-    (tie.spec
-    enum-known-answer
-    units-requires
-    units-requires-2
-    enum-known-answer-2
-    returns
-    returns-2)
+    (tie.spec (λ c. search needs) (λ c κs. search needs) (λ c κs. search needs) (λ c. search needs) returns returns-2)

@@ -11,15 +11,6 @@ use borrow.Author.Needs.{needs}
 use Rattle.geometry.proofs.volume.half_ellipsoids.Statement.{statement}
 use Rattle.geometry.proofs.volume.half_ellipsoids.Tie as tie
 
-mul-nearest-of-product : tie.Need-mul-nearest-of-product
-mul-nearest-of-product c = search needs
-
-mul-nearest-of-product-2 : tie.Need-mul-nearest-of-product-2
-mul-nearest-of-product-2 c = search needs
-
-mul-nearest-of-product-3 : tie.Need-mul-nearest-of-product-3
-mul-nearest-of-product-3 c = search needs
-
 square-fits : (d h : ℕ) → h ≤ d → d ≤ largest → h * h ≤ largest * d
 square-fits d h low high = let height : h ≤ largest = omega arith in mul-le-mul height low
 
@@ -32,23 +23,11 @@ factor-fits d l h d-high l-high =
 regroup : (l h u : ℕ) → 355 * l * u * (h * h) ≡ 355 * l * (h * h) * u
 regroup l h u = omega arith
 
-sub-nearest-of-product : tie.Need-sub-nearest-of-product
-sub-nearest-of-product c = search needs
-
 mul-nearest-of-product-4 : tie.Need-mul-nearest-of-product-4
 mul-nearest-of-product-4 c = omega (arith, factor-fits (c .args .d) (c .args .l) (c .args .h) (c .pre .2) (c .pre .3))
 
 mul-nearest-of-product-5 : tie.Need-mul-nearest-of-product-5
 mul-nearest-of-product-5 c = omega (arith, square-fits (c .args .d) (c .args .h) (c .pre .0) (c .pre .2))
-
-mul-nearest-of-product-6 : tie.Need-mul-nearest-of-product-6
-mul-nearest-of-product-6 c = search needs
-
-mul-nearest-of-product-7 : tie.Need-mul-nearest-of-product-7
-mul-nearest-of-product-7 c = search needs
-
-mul-nearest-of-product-8 : tie.Need-mul-nearest-of-product-8
-mul-nearest-of-product-8 c = search needs
 
 nearest-of-product-requires : tie.Need-nearest-of-product-requires
 nearest-of-product-requires c κs =
@@ -68,15 +47,6 @@ returns c =
 pub half-ellipsoids-spec : {M : Type 1} → statement M
 half-ellipsoids-spec =
     tie.close
-    (tie.spec
-    mul-nearest-of-product
-    mul-nearest-of-product-2
-    mul-nearest-of-product-3
-    sub-nearest-of-product
-    mul-nearest-of-product-4
-    mul-nearest-of-product-5
-    mul-nearest-of-product-6
-    mul-nearest-of-product-7
-    mul-nearest-of-product-8
-    nearest-of-product-requires
+    (tie.spec (λ c. search needs) (λ c. search needs) (λ c. search needs) (λ c. search needs) mul-nearest-of-product-4
+    mul-nearest-of-product-5 (λ c. search needs) (λ c. search needs) (λ c. search needs) nearest-of-product-requires
     returns)

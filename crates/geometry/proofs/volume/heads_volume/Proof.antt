@@ -7,27 +7,6 @@ use borrow.Author.Needs.{needs}
 use Rattle.geometry.proofs.volume.heads_volume.Statement.{statement}
 use Rattle.geometry.proofs.volume.heads_volume.Tie as tie
 
-enum-told : tie.Need-enum-told
-enum-told c = search needs
-
-enum-told-2 : tie.Need-enum-told-2
-enum-told-2 c = search needs
-
-units-requires : tie.Need-units-requires
-units-requires c κs = search needs
-
-cast-half-ellipsoids : tie.Need-cast-half-ellipsoids
-cast-half-ellipsoids c = search needs
-
-units-requires-2 : tie.Need-units-requires-2
-units-requires-2 c κs = search needs
-
-cast-half-ellipsoids-2 : tie.Need-cast-half-ellipsoids-2
-cast-half-ellipsoids-2 c = search needs
-
-half-ellipsoids-requires : tie.Need-half-ellipsoids-requires
-half-ellipsoids-requires c κs = search needs
-
 returns : tie.Need-returns
 unfolding headsVolume
 returns c = rw (c .enum-told .given .1)
@@ -42,13 +21,5 @@ returns-2 c =
 pub heads-volume-spec : {M : Type 1} → statement M
 heads-volume-spec =
     tie.close
-    (tie.spec
-    enum-told
-    enum-told-2
-    units-requires
-    cast-half-ellipsoids
-    units-requires-2
-    cast-half-ellipsoids-2
-    half-ellipsoids-requires
-    returns
-    returns-2)
+    (tie.spec (λ c. search needs) (λ c. search needs) (λ c κs. search needs) (λ c. search needs)
+    (λ c κs. search needs) (λ c. search needs) (λ c κs. search needs) returns returns-2)

@@ -45,9 +45,6 @@ full : (c : tie.Else2)
     (c .before .before .before .before .before .before .args .table .now) (c .before .before .before .before .before .before .args .dh)
 full c = rw (litres-at-top _ _ _ (sound-table (c .before .before .before))) (enough c)
 
-is-sound-requires : tie.Need-is-sound-requires
-is-sound-requires c κs = search needs
-
 returns : tie.Need-returns
 unfolding heightAnswer
 returns c =
@@ -55,14 +52,8 @@ returns c =
     let faulty : soundTable (a .dh) (a .step) (a .table .now) ≡ false = sym (c .before .is-sound .ensures) ∙ not-true _ (c .if1 .taken) in
     (simp faulty, tt)
 
-units-requires : tie.Need-units-requires
-units-requires c κs = search needs
-
 sub-if2 : tie.Need-sub-if2
 sub-if2 c = some-rows (c .before)
-
-mul-if2 : tie.Need-mul-if2
-mul-if2 c = search needs
 
 shared-slice-read-if2 : tie.Need-shared-slice-read-if2
 shared-slice-read-if2 c = omega (arith, some-rows (c .before .before))
@@ -81,9 +72,6 @@ lowest-requires c κs = (
   record { order = omega arith; inside = omega arith; reaches = rw (c .before .before .units .ensures) (full c); first = λ lower l. absurd (omega arith) },
 )
 
-of-requires : tie.Need-of-requires
-of-requires c κs = search needs
-
 returns-3 : tie.Need-returns-3
 unfolding heightAnswer
 returns-3 c =
@@ -99,14 +87,5 @@ returns-3 c =
 pub height-for-spec : {M : Type 1} → statement M
 height-for-spec =
     tie.close
-    (tie.spec
-    is-sound-requires
-    returns
-    units-requires
-    sub-if2
-    mul-if2
-    shared-slice-read-if2
-    returns-2
-    lowest-requires
-    of-requires
-    returns-3)
+    (tie.spec (λ c κs. search needs) returns (λ c κs. search needs) sub-if2 (λ c. search needs) shared-slice-read-if2
+    returns-2 lowest-requires (λ c κs. search needs) returns-3)

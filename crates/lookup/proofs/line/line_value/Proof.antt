@@ -15,12 +15,6 @@ weighed-fits a b x gap fits-a fits-b l g =
     let part : x ≤ largestStep = omega arith in
     omega (arith, mul-le-mul (le-of-lt fits-a) rest, mul-le-mul (le-of-lt fits-b) part)
 
-sub-weighed : tie.Need-sub-weighed
-sub-weighed c = search needs
-
-cast-weighed : tie.Need-cast-weighed
-cast-weighed c = search needs
-
 mul-weighed : tie.Need-mul-weighed
 mul-weighed c =
     let a = c .args in
@@ -55,12 +49,5 @@ returns c = c .nearest-quotient .ensures
 pub line-value-spec : {M : Type 1} → statement M
 line-value-spec =
     tie.close
-    (tie.spec
-    sub-weighed
-    cast-weighed
-    mul-weighed
-    mul-weighed-2
-    add-weighed
-    nearest-quotient-requires
-    cast-result
-    returns)
+    (tie.spec (λ c. search needs) (λ c. search needs) mul-weighed mul-weighed-2 add-weighed nearest-quotient-requires
+    cast-result returns)

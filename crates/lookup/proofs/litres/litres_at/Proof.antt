@@ -17,18 +17,12 @@ fine : (c : tie.Else1)
     → soundTable (c .before .before .before .args .dh) (c .before .before .before .args .step) (c .before .before .before .args .table .now) ≡ true
 fine c = sym (c .before .is-sound .ensures) ∙ not-false _ (c .if1 .left)
 
-is-sound-requires : tie.Need-is-sound-requires
-is-sound-requires c κs = search needs
-
 returns : tie.Need-returns
 unfolding litresAnswer
 returns c =
     let a = c .before .before .before .args in
     let faulty : soundTable (a .dh) (a .step) (a .table .now) ≡ false = sym (c .before .is-sound .ensures) ∙ not-true _ (c .if1 .taken) in
     simp faulty
-
-units-requires : tie.Need-units-requires
-units-requires c κs = search needs
 
 returns-2 : tie.Need-returns-2
 unfolding litresAnswer
@@ -38,9 +32,6 @@ returns-2 c =
 
 litres-inside-requires : tie.Need-litres-inside-requires
 litres-inside-requires c κs = (sound _ _ _ (fine (c .before .before)), omega arith)
-
-of-requires : tie.Need-of-requires
-of-requires c κs = search needs
 
 returns-3 : tie.Need-returns-3
 unfolding litresAnswer
@@ -53,11 +44,5 @@ returns-3 c =
 pub litres-at-spec : {M : Type 1} → statement M
 litres-at-spec =
     tie.close
-    (tie.spec
-    is-sound-requires
-    returns
-    units-requires
-    returns-2
-    litres-inside-requires
-    of-requires
-    returns-3)
+    (tie.spec (λ c κs. search needs) returns (λ c κs. search needs) returns-2 litres-inside-requires
+    (λ c κs. search needs) returns-3)

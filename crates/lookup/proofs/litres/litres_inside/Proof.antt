@@ -41,9 +41,6 @@ sub-result c =
     let start = c .before .before in
     omega (arith, start .pre .0 .count, count-pos (start .args .dh) (start .args .step) (omega (arith, start .pre .0 .step-low)))
 
-mul-result : tie.Need-mul-result
-mul-result c = search needs
-
 shared-slice-read-result : tie.Need-shared-slice-read-result
 shared-slice-read-result c =
     let start = c .before .before .before in
@@ -55,9 +52,6 @@ returns c =
     let a = start .args in
     rw (c .before .if1 .taken, start .pre .0 .count) (sym (litres-at-top (a .dh) (a .step) (a .table .now) (start .pre .0)))
 
-div-i : tie.Need-div-i
-div-i c = search needs
-
 cast-i : tie.Need-cast-i
 cast-i c = omega (arith, div-le-self (c .before .before .args .h) (c .before .before .args .step))
 
@@ -67,9 +61,6 @@ row-height-requires c κs =
     let f = neighbours start (omega arith) in
     omega arith
 
-units-requires : tie.Need-units-requires
-units-requires c κs = search needs
-
 add-row-height : tie.Need-add-row-height
 add-row-height c = omega (arith, div-le-self (c .before .before .before .before .args .h) (c .before .before .before .before .args .step))
 
@@ -78,9 +69,6 @@ row-height-requires-2 c κs =
     let start = c .before .before .before .before in
     let f = neighbours start (omega arith) in
     omega arith
-
-units-requires-2 : tie.Need-units-requires-2
-units-requires-2 c κs = search needs
 
 sub-on-line : tie.Need-sub-on-line
 sub-on-line c =
@@ -118,19 +106,6 @@ returns-2 c =
 pub litres-inside-spec : {M : Type 1} → statement M
 litres-inside-spec =
     tie.close
-    (tie.spec
-    sub-result
-    mul-result
-    shared-slice-read-result
-    returns
-    div-i
-    cast-i
-    row-height-requires
-    units-requires
-    add-row-height
-    row-height-requires-2
-    units-requires-2
-    sub-on-line
-    sub-on-line-2
-    on-line-requires
-    returns-2)
+    (tie.spec sub-result (λ c. search needs) shared-slice-read-result returns (λ c. search needs) cast-i
+    row-height-requires (λ c κs. search needs) add-row-height row-height-requires-2 (λ c κs. search needs) sub-on-line
+    sub-on-line-2 on-line-requires returns-2)

@@ -35,9 +35,6 @@ returns-4 c =
     let step = c .before .before .before .before .before .args .step in
     simp (le-leb smallest dh (omega arith), le-leb dh largest (omega arith), le-leb smallestStep step (omega arith), lt-leb step largestStep (omega arith))
 
-row-count-requires : tie.Need-row-count-requires
-row-count-requires c κs = search needs
-
 returns-5 : tie.Need-returns-5
 unfolding soundTable
 returns-5 c =
@@ -46,9 +43,6 @@ returns-5 c =
     let step = a .step in
     let size = ne-eqb (length (a .table .now)) (rowCount dh step) (λ e. omega (arith, c .before .row-count .ensures)) in
     simp (le-leb smallest dh (omega arith), le-leb dh largest (omega arith), le-leb smallestStep step (omega arith), le-leb step largestStep (omega arith), size)
-
-never-falls-requires : tie.Need-never-falls-requires
-never-falls-requires c κs = search needs
 
 returns-6 : tie.Need-returns-6
 unfolding soundTable
@@ -62,12 +56,4 @@ returns-6 c =
 pub is-sound-spec : {M : Type 1} → statement M
 is-sound-spec =
     tie.close
-    (tie.spec
-    returns
-    returns-2
-    returns-3
-    returns-4
-    row-count-requires
-    returns-5
-    never-falls-requires
-    returns-6)
+    (tie.spec returns returns-2 returns-3 returns-4 (λ c κs. search needs) returns-5 (λ c κs. search needs) returns-6)

@@ -23,12 +23,6 @@ module _ (d dh h : ℕ) (fits-d : d < 2 ^ 32) (fits-dh : dh < 2 ^ 32) (fits-h : 
   raised : (z : ℤ) → SFits w64 z → z ≡ halfDifference d dh → toZ w64 h +ℤ toZ w64 (ofZ w64 z) ≡ pos h +ℤ halfDifference d dh
   raised z s e = rw (toZ-pos w64 h (omega arith), toZ-ofZ w64 z s, e)
 
-cast-held : tie.Need-cast-held
-cast-held c = search needs
-
-half-difference-requires : tie.Need-half-difference-requires
-half-difference-requires c κs = search needs
-
 add-held : tie.Need-add-held
 add-held c =
     let a = c .before .args in
@@ -36,9 +30,6 @@ add-held c =
     let z = c .half-difference in
     rw (raised (a .d) (a .dh) (a .h) (f .d .fits) (f .dh .fits) (f .h .fits) (z .result) (record { sfits = z .ok }) (z .ensures))
     (raised-fits (a .d) (a .dh) (a .h) (f .d .fits) (f .dh .fits) (f .h .fits))
-
-held-requires : tie.Need-held-requires
-held-requires c κs = search needs
 
 returns : tie.Need-returns
 unfolding correctedHeight
@@ -52,4 +43,5 @@ returns c =
 
 pub corrected-units-spec : {M : Type 1} → statement M
 corrected-units-spec =
-    tie.close (tie.spec cast-held half-difference-requires add-held held-requires returns)
+    tie.close
+    (tie.spec (λ c. search needs) (λ c κs. search needs) add-held (λ c κs. search needs) returns)

@@ -20,20 +20,11 @@ module _ (a b : ℕ) (fits-a : a < 2 ^ 32) (fits-b : b < 2 ^ 32) where
   difference : toZ w64 a -ℤ toZ w64 b ≡ subℕ a b
   difference = rw (toZ-pos w64 a (omega arith), toZ-pos w64 b (omega arith)) (minus a b)
 
-cast-floor-half : tie.Need-cast-floor-half
-cast-floor-half c = search needs
-
-cast-floor-half-2 : tie.Need-cast-floor-half-2
-cast-floor-half-2 c = search needs
-
 sub-floor-half : tie.Need-sub-floor-half
 sub-floor-half c =
     let a = c .args .a in
     let b = c .args .b in
     rw (difference a b (c .fits .a .fits) (c .fits .b .fits)) (difference-fits a b (c .fits .a .fits) (c .fits .b .fits))
-
-floor-half-requires : tie.Need-floor-half-requires
-floor-half-requires c κs = search needs
 
 returns : tie.Need-returns
 returns c =
@@ -48,4 +39,5 @@ returns c =
 
 pub half-difference-spec : {M : Type 1} → statement M
 half-difference-spec =
-    tie.close (tie.spec cast-floor-half cast-floor-half-2 sub-floor-half floor-half-requires returns)
+    tie.close
+    (tie.spec (λ c. search needs) (λ c. search needs) sub-floor-half (λ c κs. search needs) returns)

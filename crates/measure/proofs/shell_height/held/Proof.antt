@@ -36,9 +36,6 @@ cast-n c =
     let s = c .before .fits .x in
     rw (toZ-ofZ w64 x s) (fits x s (rw (toZ-ofZ w64 x s) at (c .if1 .left)))
 
-cast-result : tie.Need-cast-result
-cast-result c = search needs
-
 returns-2 : tie.Need-returns-2
 returns-2 c =
     let a = c .before .before .args in
@@ -52,4 +49,4 @@ returns-3 c =
     sym (within (a .x) (a .upper) (rw plain at (c .before .if1 .left)) ∙ min-eq-right (rw plain at (c .if2 .left)))
 
 pub held-spec : {M : Type 1} → statement M
-held-spec = tie.close (tie.spec returns cast-n cast-result returns-2 returns-3)
+held-spec = tie.close (tie.spec returns cast-n (λ c. search needs) returns-2 returns-3)

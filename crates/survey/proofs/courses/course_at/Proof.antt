@@ -4,22 +4,12 @@ use borrow.Author.Needs.{needs}
 use Rattle.survey.proofs.courses.course_at.Statement.{statement}
 use Rattle.survey.proofs.courses.course_at.Tie as tie
 
-word-requires : tie.Need-word-requires
-word-requires c κs = search needs
-
-cast-result : tie.Need-cast-result
-cast-result c = search needs
-
-mul-result : tie.Need-mul-result
-mul-result c = search needs
-
-add-result : tie.Need-add-result
-add-result c = search needs
-
 returns : tie.Need-returns
 returns c =
     let start = c .before .before in
     omega (arith, start .pre .0 .coursesInside (start .args .i) (start .pre .1))
 
 pub course-at-spec : {M : Type 1} → statement M
-course-at-spec = tie.close (tie.spec word-requires cast-result mul-result add-result returns)
+course-at-spec =
+    tie.close
+    (tie.spec (λ c κs. search needs) (λ c. search needs) (λ c. search needs) (λ c. search needs) returns)

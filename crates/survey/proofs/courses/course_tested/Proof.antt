@@ -5,30 +5,6 @@ use Rattle.survey.specs.Tests.{courseTests}
 use Rattle.survey.proofs.courses.course_tested.Statement.{statement}
 use Rattle.survey.proofs.courses.course_tested.Tie as tie
 
-course-at-requires : tie.Need-course-at-requires
-course-at-requires c κs = search needs
-
-limit-requires : tie.Need-limit-requires
-limit-requires c κs = search needs
-
-add-limit : tie.Need-add-limit
-add-limit c = search needs
-
-limit-requires-2 : tie.Need-limit-requires-2
-limit-requires-2 c κs = search needs
-
-add-limit-2 : tie.Need-add-limit-2
-add-limit-2 c = search needs
-
-limit-requires-3 : tie.Need-limit-requires-3
-limit-requires-3 c κs = search needs
-
-add-limit-3 : tie.Need-add-limit-3
-add-limit-3 c = search needs
-
-limit-requires-4 : tie.Need-limit-requires-4
-limit-requires-4 c κs = search needs
-
 returns : tie.Need-returns
 unfolding courseTests
 returns c =
@@ -45,13 +21,5 @@ returns c =
 pub course-tested-spec : {M : Type 1} → statement M
 course-tested-spec =
     tie.close
-    (tie.spec
-    course-at-requires
-    limit-requires
-    add-limit
-    limit-requires-2
-    add-limit-2
-    limit-requires-3
-    add-limit-3
-    limit-requires-4
-    returns)
+    (tie.spec (λ c κs. search needs) (λ c κs. search needs) (λ c. search needs) (λ c κs. search needs)
+    (λ c. search needs) (λ c κs. search needs) (λ c. search needs) (λ c κs. search needs) returns)

@@ -63,54 +63,12 @@ next c =
     )
     (next-sums (start .args .s .now) (start .pre) (l .i) (omega arith))
 
-word-requires : tie.Need-word-requires Inv-loop μ-loop
-word-requires c κs = omega arith
-
-cast-count : tie.Need-cast-count Inv-loop μ-loop
-cast-count c = omega arith
-
 loop-holds : tie.Need-loop-holds Inv-loop μ-loop
 unfolding sum
 loop-holds c = omega arith
 
 course-at-requires : tie.Need-course-at-requires Inv-loop μ-loop
 course-at-requires c κs = (c .before .before .before .before .pre .sections, omega arith)
-
-word-requires-2 : tie.Need-word-requires-2 Inv-loop μ-loop
-word-requires-2 c κs = omega arith
-
-cast-first : tie.Need-cast-first Inv-loop μ-loop
-cast-first c = omega arith
-
-add-word : tie.Need-add-word Inv-loop μ-loop
-add-word c = omega arith
-
-word-requires-3 : tie.Need-word-requires-3 Inv-loop μ-loop
-word-requires-3 c κs = omega arith
-
-cast-second : tie.Need-cast-second Inv-loop μ-loop
-cast-second c = omega arith
-
-add-word-2 : tie.Need-add-word-2 Inv-loop μ-loop
-add-word-2 c = omega arith
-
-word-requires-4 : tie.Need-word-requires-4 Inv-loop μ-loop
-word-requires-4 c κs = omega arith
-
-cast-length : tie.Need-cast-length Inv-loop μ-loop
-cast-length c = omega arith
-
-add-word-3 : tie.Need-add-word-3 Inv-loop μ-loop
-add-word-3 c = omega arith
-
-word-requires-5 : tie.Need-word-requires-5 Inv-loop μ-loop
-word-requires-5 c κs = omega arith
-
-cast-thickness : tie.Need-cast-thickness Inv-loop μ-loop
-cast-thickness c = omega arith
-
-add-readings : tie.Need-add-readings Inv-loop μ-loop
-add-readings c = omega arith
 
 mul-readings : tie.Need-mul-readings Inv-loop μ-loop
 mul-readings c = omega (arith, next c .readings-fit)
@@ -123,12 +81,6 @@ add-lengths c = omega (arith, next c .lengths-fit)
 
 add-thicknesses : tie.Need-add-thicknesses Inv-loop μ-loop
 add-thicknesses c = omega (arith, next c .thicknesses-fit)
-
-add-i : tie.Need-add-i Inv-loop μ-loop
-add-i c = omega arith
-
-loop-less : tie.Need-loop-less Inv-loop μ-loop
-loop-less c = omega arith
 
 loop-again : tie.Need-loop-again Inv-loop μ-loop
 loop-again c = omega (arith, next c .readings-next, next c .lengths-next, next c .thicknesses-next)
@@ -144,30 +96,8 @@ returns c =
 pub totals-spec : {M : Type 1} → statement M
 totals-spec =
     tie.close
-    (tie.spec
-    Inv-loop
-    μ-loop
-    word-requires
-    cast-count
-    loop-holds
-    course-at-requires
-    word-requires-2
-    cast-first
-    add-word
-    word-requires-3
-    cast-second
-    add-word-2
-    word-requires-4
-    cast-length
-    add-word-3
-    word-requires-5
-    cast-thickness
-    add-readings
-    mul-readings
-    add-readings-2
-    add-lengths
-    add-thicknesses
-    add-i
-    loop-less
-    loop-again
-    returns)
+    (tie.spec Inv-loop μ-loop (λ c κs. omega arith) (λ c. omega arith) loop-holds course-at-requires
+    (λ c κs. omega arith) (λ c. omega arith) (λ c. omega arith) (λ c κs. omega arith) (λ c. omega arith)
+    (λ c. omega arith) (λ c κs. omega arith) (λ c. omega arith) (λ c. omega arith) (λ c κs. omega arith)
+    (λ c. omega arith) (λ c. omega arith) mul-readings add-readings-2 add-lengths add-thicknesses (λ c. omega arith)
+    (λ c. omega arith) loop-again returns)

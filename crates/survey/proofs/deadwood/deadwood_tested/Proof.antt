@@ -14,24 +14,12 @@ Inv-loop s count v₀ i₀ v i = (i ≤ count) × (v ≡ verdict (items i (deadw
 abbrev μ-loop : tie.MeasureT-loop
 μ-loop s count v₀ i₀ v i = count - i
 
-word-requires : tie.Need-word-requires Inv-loop μ-loop
-word-requires c κs = omega arith
-
-cast-count : tie.Need-cast-count Inv-loop μ-loop
-cast-count c = omega arith
-
 loop-holds : tie.Need-loop-holds Inv-loop μ-loop
 unfolding items
 loop-holds c = (omega arith, refl)
 
 item-tested-requires : tie.Need-item-tested-requires Inv-loop μ-loop
 item-tested-requires c κs = (c .before .before .before .before .pre, omega arith)
-
-add-i : tie.Need-add-i Inv-loop μ-loop
-add-i c = omega arith
-
-loop-less : tie.Need-loop-less Inv-loop μ-loop
-loop-less c = omega arith
 
 loop-again : tie.Need-loop-again Inv-loop μ-loop
 loop-again c =
@@ -49,14 +37,5 @@ returns c =
 pub deadwood-tested-spec : {M : Type 1} → statement M
 deadwood-tested-spec =
     tie.close
-    (tie.spec
-    Inv-loop
-    μ-loop
-    word-requires
-    cast-count
-    loop-holds
-    item-tested-requires
-    add-i
-    loop-less
-    loop-again
-    returns)
+    (tie.spec Inv-loop μ-loop (λ c κs. omega arith) (λ c. omega arith) loop-holds item-tested-requires
+    (λ c. omega arith) (λ c. omega arith) loop-again returns)

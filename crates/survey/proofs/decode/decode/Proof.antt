@@ -5,20 +5,11 @@ use Rattle.survey.specs.Accepted.{accepted, accepted-courses}
 use Rattle.survey.proofs.decode.decode.Statement.{statement}
 use Rattle.survey.proofs.decode.decode.Tie as tie
 
-tested-requires : tie.Need-tested-requires
-tested-requires c κs = search needs
-
-enum-told : tie.Need-enum-told
-enum-told c = search needs
-
 sound-survey-requires : tie.Need-sound-survey-requires
 sound-survey-requires c κs =
     let s = c .before .before .before .before .args .s .now in
     let e = sym (c .before .before .tested .ensures) ∙ c .enum-told .given .1 in
     (accepted s e, accepted-courses s e)
-
-enum-known-v : tie.Need-enum-known-v
-enum-known-v c = search needs
 
 returns : tie.Need-returns
 returns c = rw (sym (c .before .before .before .tested .ensures) ∙ c .before .enum-told .given .1) (c .sound-survey .ensures)
@@ -29,4 +20,4 @@ returns-2 c = rw (← c .before .before .before .tested .ensures, c .before .v .
 pub decode-spec : {M : Type 1} → statement M
 decode-spec =
     tie.close
-    (tie.spec tested-requires enum-told sound-survey-requires enum-known-v returns returns-2)
+    (tie.spec (λ c κs. search needs) (λ c. search needs) sound-survey-requires (λ c. search needs) returns returns-2)

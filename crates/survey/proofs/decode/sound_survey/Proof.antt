@@ -23,77 +23,20 @@ module _ (m : Measured) (n : ℕ) (e : m ≡ measured n) (l : smallest ≤ n) (h
   exactly : (d : Diameter) → m ≡ Within d → d ≡ diameter n
   exactly d is = let w = within in cc
 
-word-requires : tie.Need-word-requires
-word-requires c κs = search needs
-
-of-requires : tie.Need-of-requires
-of-requires c κs = search needs
-
-enum-known-dh : tie.Need-enum-known-dh
-enum-known-dh c = search needs
-
-enum-told : tie.Need-enum-told
-enum-told c = search needs
-
 returns : tie.Need-returns
 returns c =
     let a = c .before .before .before .before .before .pre .0 in
     absurd (not-outside (c .before .before .of .result) (c .before .before .before .word .result) (c .before .before .of .ensures .0) (omega arith) (omega arith) (c .enum-told .given .1))
-
-shell-diameter-requires : tie.Need-shell-diameter-requires
-shell-diameter-requires c κs = search needs
-
-cast-of : tie.Need-cast-of
-cast-of c = search needs
-
-of-requires-2 : tie.Need-of-requires-2
-of-requires-2 c κs = search needs
-
-enum-known-d1 : tie.Need-enum-known-d1
-enum-known-d1 c = search needs
-
-enum-told-2 : tie.Need-enum-told-2
-enum-told-2 c = search needs
 
 returns-2 : tie.Need-returns-2
 returns-2 c =
     let a = c .before .before .before .before .before .before .before .before .before .before .pre .0 in
     absurd (not-outside (c .before .before .of2 .result) (c .before .before .before .shell-diameter .result) (c .before .before .of2 .ensures .0) (omega arith) (omega arith) (c .enum-told2 .given .1))
 
-head-diameter-requires : tie.Need-head-diameter-requires
-head-diameter-requires c κs = search needs
-
-cast-of-2 : tie.Need-cast-of-2
-cast-of-2 c = search needs
-
-of-requires-3 : tie.Need-of-requires-3
-of-requires-3 c κs = search needs
-
-enum-known-d2 : tie.Need-enum-known-d2
-enum-known-d2 c = search needs
-
-enum-told-3 : tie.Need-enum-told-3
-enum-told-3 c = search needs
-
 returns-3 : tie.Need-returns-3
 returns-3 c =
     let a = c .before .before .before .before .before .before .before .before .before .before .before .before .before .before .before .pre .0 in
     absurd (not-outside (c .before .before .of3 .result) (c .before .before .before .head-diameter .result) (c .before .before .of3 .ensures .0) (omega arith) (omega arith) (c .enum-told3 .given .1))
-
-word-requires-2 : tie.Need-word-requires-2
-word-requires-2 c κs = search needs
-
-kind-of-requires : tie.Need-kind-of-requires
-kind-of-requires c κs = search needs
-
-word-requires-3 : tie.Need-word-requires-3
-word-requires-3 c κs = search needs
-
-word-requires-4 : tie.Need-word-requires-4
-word-requires-4 c κs = search needs
-
-word-requires-5 : tie.Need-word-requires-5
-word-requires-5 c κs = search needs
 
 word-requires-6 : tie.Need-word-requires-6
 word-requires-6 c κs = omega (arith, c .before .before .before .before .before .before .before .before .before .before .before .before .before .before .before .before .before .before .before .before .before .pre .0 .header)
@@ -133,30 +76,8 @@ returns-4 c =
 pub sound-survey-spec : {M : Type 1} → statement M
 sound-survey-spec =
     tie.close
-    (tie.spec
-    word-requires
-    of-requires
-    enum-known-dh
-    enum-told
-    returns
-    shell-diameter-requires
-    cast-of
-    of-requires-2
-    enum-known-d1
-    enum-told-2
-    returns-2
-    head-diameter-requires
-    cast-of-2
-    of-requires-3
-    enum-known-d2
-    enum-told-3
-    returns-3
-    word-requires-2
-    kind-of-requires
-    word-requires-3
-    word-requires-4
-    word-requires-5
-    word-requires-6
-    word-requires-7
-    word-requires-8
-    returns-4)
+    (tie.spec (λ c κs. search needs) (λ c κs. search needs) (λ c. search needs) (λ c. search needs) returns
+    (λ c κs. search needs) (λ c. search needs) (λ c κs. search needs) (λ c. search needs) (λ c. search needs)
+    returns-2 (λ c κs. search needs) (λ c. search needs) (λ c κs. search needs) (λ c. search needs)
+    (λ c. search needs) returns-3 (λ c κs. search needs) (λ c κs. search needs) (λ c κs. search needs)
+    (λ c κs. search needs) (λ c κs. search needs) word-requires-6 word-requires-7 word-requires-8 returns-4)

@@ -3,24 +3,6 @@ use borrow.Author.Needs.{needs}
 use Rattle.survey.proofs.dimensions.diameters_fit.Statement.{statement}
 use Rattle.survey.proofs.dimensions.diameters_fit.Tie as tie
 
-word-requires : tie.Need-word-requires
-word-requires c κs = search needs
-
-cast-dh : tie.Need-cast-dh
-cast-dh c = search needs
-
-shell-diameter-requires : tie.Need-shell-diameter-requires
-shell-diameter-requires c κs = search needs
-
-fits-requires : tie.Need-fits-requires
-fits-requires c κs = search needs
-
-head-diameter-requires : tie.Need-head-diameter-requires
-head-diameter-requires c κs = search needs
-
-fits-requires-2 : tie.Need-fits-requires-2
-fits-requires-2 c κs = search needs
-
 returns : tie.Need-returns
 returns c =
     rw (
@@ -44,12 +26,5 @@ returns-2 c =
 pub diameters-fit-spec : {M : Type 1} → statement M
 diameters-fit-spec =
     tie.close
-    (tie.spec
-    word-requires
-    cast-dh
-    shell-diameter-requires
-    fits-requires
-    head-diameter-requires
-    fits-requires-2
-    returns
-    returns-2)
+    (tie.spec (λ c κs. search needs) (λ c. search needs) (λ c κs. search needs) (λ c κs. search needs)
+    (λ c κs. search needs) (λ c κs. search needs) returns returns-2)

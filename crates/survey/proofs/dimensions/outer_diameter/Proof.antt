@@ -7,9 +7,6 @@ use Rattle.survey.specs.Courses.{weighted-at-most, lengths-at-least-one,
 use Rattle.survey.proofs.dimensions.outer_diameter.Statement.{statement}
 use Rattle.survey.proofs.dimensions.outer_diameter.Tie as tie
 
-totals-requires : tie.Need-totals-requires
-totals-requires c κs = search needs
-
 mul-nearest-quotient : tie.Need-mul-nearest-quotient
 mul-nearest-quotient c =
     let start = c .before .before .before in
@@ -34,9 +31,4 @@ returns c =
 pub outer-diameter-spec : {M : Type 1} → statement M
 outer-diameter-spec =
     tie.close
-    (tie.spec
-    totals-requires
-    mul-nearest-quotient
-    mul-nearest-quotient-2
-    nearest-quotient-requires
-    returns)
+    (tie.spec (λ c κs. search needs) mul-nearest-quotient mul-nearest-quotient-2 nearest-quotient-requires returns)

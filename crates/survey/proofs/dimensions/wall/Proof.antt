@@ -8,20 +8,11 @@ use Rattle.survey.specs.Courses.{thicknesses-at-most}
 use Rattle.survey.proofs.dimensions.wall.Statement.{statement}
 use Rattle.survey.proofs.dimensions.wall.Tie as tie
 
-totals-requires : tie.Need-totals-requires
-totals-requires c κs = search needs
-
 mul-nearest-quotient : tie.Need-mul-nearest-quotient
 mul-nearest-quotient c =
     let start = c .before .before .before in
     let s = start .args .s .now in
     omega (arith, thicknesses-at-most s (start .pre) (courseCount s) (le-refl (courseCount s)), start .pre .sections .fewCourses)
-
-word-requires : tie.Need-word-requires
-word-requires c κs = search needs
-
-cast-nearest-quotient : tie.Need-cast-nearest-quotient
-cast-nearest-quotient c = search needs
 
 nearest-quotient-requires : tie.Need-nearest-quotient-requires
 nearest-quotient-requires c κs =
@@ -36,10 +27,5 @@ returns c = rw (← c .before .before .before .totals .ensures .2, ← c .before
 pub wall-spec : {M : Type 1} → statement M
 wall-spec =
     tie.close
-    (tie.spec
-    totals-requires
-    mul-nearest-quotient
-    word-requires
-    cast-nearest-quotient
-    nearest-quotient-requires
-    returns)
+    (tie.spec (λ c κs. search needs) mul-nearest-quotient (λ c κs. search needs) (λ c. search needs)
+    nearest-quotient-requires returns)

@@ -4,15 +4,6 @@ use borrow.Author.Needs.{needs}
 use Rattle.survey.proofs.limits.head_limit.Statement.{statement}
 use Rattle.survey.proofs.limits.head_limit.Tie as tie
 
-word-requires : tie.Need-word-requires
-word-requires c κs = search needs
-
-limit-requires : tie.Need-limit-requires
-limit-requires c κs = search needs
-
-limit-requires-2 : tie.Need-limit-requires-2
-limit-requires-2 c κs = search needs
-
 returns : tie.Need-returns
 returns c = rw (← c .before .before .word .ensures, eq-eqb _ _ (c .before .if1 .taken)) (c .limit .ensures)
 
@@ -21,4 +12,5 @@ returns-2 c = rw (← c .before .before .word .ensures, ne-eqb _ _ (c .before .i
 
 pub head-limit-spec : {M : Type 1} → statement M
 head-limit-spec =
-    tie.close (tie.spec word-requires limit-requires limit-requires-2 returns returns-2)
+    tie.close
+    (tie.spec (λ c κs. search needs) (λ c κs. search needs) (λ c κs. search needs) returns returns-2)

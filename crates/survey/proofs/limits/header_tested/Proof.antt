@@ -6,27 +6,6 @@ use Rattle.survey.specs.Tests.{headerTests}
 use Rattle.survey.proofs.limits.header_tested.Statement.{statement}
 use Rattle.survey.proofs.limits.header_tested.Tie as tie
 
-limit-requires : tie.Need-limit-requires
-limit-requires c κs = search needs
-
-limit-requires-2 : tie.Need-limit-requires-2
-limit-requires-2 c κs = search needs
-
-limit-requires-3 : tie.Need-limit-requires-3
-limit-requires-3 c κs = search needs
-
-limit-requires-4 : tie.Need-limit-requires-4
-limit-requires-4 c κs = search needs
-
-limit-requires-5 : tie.Need-limit-requires-5
-limit-requires-5 c κs = search needs
-
-head-limit-requires : tie.Need-head-limit-requires
-head-limit-requires c κs = search needs
-
-limit-requires-6 : tie.Need-limit-requires-6
-limit-requires-6 c κs = search needs
-
 returns : tie.Need-returns
 unfolding headerTests
 returns c =
@@ -44,12 +23,5 @@ returns c =
 pub header-tested-spec : {M : Type 1} → statement M
 header-tested-spec =
     tie.close
-    (tie.spec
-    limit-requires
-    limit-requires-2
-    limit-requires-3
-    limit-requires-4
-    limit-requires-5
-    head-limit-requires
-    limit-requires-6
-    returns)
+    (tie.spec (λ c κs. search needs) (λ c κs. search needs) (λ c κs. search needs) (λ c κs. search needs)
+    (λ c κs. search needs) (λ c κs. search needs) (λ c κs. search needs) returns)

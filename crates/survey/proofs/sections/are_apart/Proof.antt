@@ -16,17 +16,11 @@ returns-2 : tie.Need-returns-2
 unfolding apart
 returns-2 c = rw (ne-eqb _ _ (c .before .if1 .left), eq-eqb _ _ (c .if2 .taken))
 
-add-if3 : tie.Need-add-if3
-add-if3 c = search needs
-
 returns-3 : tie.Need-returns-3
 unfolding apart
 returns-3 c =
     let a = c .before .before .before .args in
     rw (ne-eqb _ _ (c .before .before .if1 .left), ne-eqb _ _ (c .before .if2 .left), le-leb (a .offset + a .size) (a .other) (omega arith))
-
-add-result : tie.Need-add-result
-add-result c = search needs
 
 returns-4 : tie.Need-returns-4
 unfolding apart
@@ -35,4 +29,4 @@ returns-4 c =
     rw (ne-eqb _ _ (c .before .before .if1 .left), ne-eqb _ _ (c .before .if2 .left), lt-leb (a .offset + a .size) (a .other) (omega arith))
 
 pub are-apart-spec : {M : Type 1} → statement M
-are-apart-spec = tie.close (tie.spec returns returns-2 add-if3 returns-3 add-result returns-4)
+are-apart-spec = tie.close (tie.spec returns returns-2 (λ c. search needs) returns-3 (λ c. search needs) returns-4)

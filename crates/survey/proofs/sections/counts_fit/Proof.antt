@@ -3,12 +3,6 @@ use borrow.Author.Needs.{needs}
 use Rattle.survey.proofs.sections.counts_fit.Statement.{statement}
 use Rattle.survey.proofs.sections.counts_fit.Tie as tie
 
-word-within-requires : tie.Need-word-within-requires
-word-within-requires c κs = search needs
-
-word-within-requires-2 : tie.Need-word-within-requires-2
-word-within-requires-2 c κs = search needs
-
 returns : tie.Need-returns
 returns c = rw (← c .before .before .word-within .ensures, c .before .if1 .taken) (c .word-within2 .ensures)
 
@@ -16,5 +10,4 @@ returns-2 : tie.Need-returns-2
 returns-2 c = rw (← c .before .word-within .ensures, c .if1 .left)
 
 pub counts-fit-spec : {M : Type 1} → statement M
-counts-fit-spec =
-    tie.close (tie.spec word-within-requires word-within-requires-2 returns returns-2)
+counts-fit-spec = tie.close (tie.spec (λ c κs. search needs) (λ c κs. search needs) returns returns-2)

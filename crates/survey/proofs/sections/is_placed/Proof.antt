@@ -10,9 +10,6 @@ returns : tie.Need-returns
 unfolding placed
 returns c = rw (eq-eqb _ _ (c .if1 .taken))
 
-add-result : tie.Need-add-result
-add-result c = search needs
-
 returns-2 : tie.Need-returns-2
 unfolding placed
 returns-2 c = rw (ne-eqb _ _ (c .before .if1 .left), le-leb _ _ (c .if2 .taken))
@@ -22,4 +19,4 @@ unfolding placed
 returns-3 c = rw (ne-eqb _ _ (c .before .if1 .left), lt-leb _ _ (c .if2 .left))
 
 pub is-placed-spec : {M : Type 1} → statement M
-is-placed-spec = tie.close (tie.spec returns add-result returns-2 returns-3)
+is-placed-spec = tie.close (tie.spec returns (λ c. search needs) returns-2 returns-3)

@@ -5,45 +5,6 @@ use Rattle.survey.specs.Tests.{sectionsPlaced}
 use Rattle.survey.proofs.sections.sections_placed.Statement.{statement}
 use Rattle.survey.proofs.sections.sections_placed.Tie as tie
 
-word-requires : tie.Need-word-requires
-word-requires c κs = search needs
-
-cast-courses : tie.Need-cast-courses
-cast-courses c = search needs
-
-word-requires-2 : tie.Need-word-requires-2
-word-requires-2 c κs = search needs
-
-cast-courses-size : tie.Need-cast-courses-size
-cast-courses-size c = search needs
-
-mul-courses-size : tie.Need-mul-courses-size
-mul-courses-size c = search needs
-
-word-requires-3 : tie.Need-word-requires-3
-word-requires-3 c κs = search needs
-
-cast-deadwood : tie.Need-cast-deadwood
-cast-deadwood c = search needs
-
-word-requires-4 : tie.Need-word-requires-4
-word-requires-4 c κs = search needs
-
-cast-deadwood-size : tie.Need-cast-deadwood-size
-cast-deadwood-size c = search needs
-
-mul-deadwood-size : tie.Need-mul-deadwood-size
-mul-deadwood-size c = search needs
-
-is-placed-requires : tie.Need-is-placed-requires
-is-placed-requires c κs = search needs
-
-is-placed-requires-2 : tie.Need-is-placed-requires-2
-is-placed-requires-2 c κs = search needs
-
-are-apart-requires : tie.Need-are-apart-requires
-are-apart-requires c κs = search needs
-
 returns : tie.Need-returns
 unfolding sectionsPlaced
 returns c =
@@ -88,20 +49,7 @@ returns-3 c =
 pub sections-placed-spec : {M : Type 1} → statement M
 sections-placed-spec =
     tie.close
-    (tie.spec
-    word-requires
-    cast-courses
-    word-requires-2
-    cast-courses-size
-    mul-courses-size
-    word-requires-3
-    cast-deadwood
-    word-requires-4
-    cast-deadwood-size
-    mul-deadwood-size
-    is-placed-requires
-    is-placed-requires-2
-    are-apart-requires
-    returns
-    returns-2
+    (tie.spec (λ c κs. search needs) (λ c. search needs) (λ c κs. search needs) (λ c. search needs)
+    (λ c. search needs) (λ c κs. search needs) (λ c. search needs) (λ c κs. search needs) (λ c. search needs)
+    (λ c. search needs) (λ c κs. search needs) (λ c κs. search needs) (λ c κs. search needs) returns returns-2
     returns-3)

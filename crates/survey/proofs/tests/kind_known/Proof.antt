@@ -3,11 +3,8 @@ use borrow.Author.Needs.{needs}
 use Rattle.survey.proofs.tests.kind_known.Statement.{statement}
 use Rattle.survey.proofs.tests.kind_known.Tie as tie
 
-word-requires : tie.Need-word-requires
-word-requires c κs = search needs
-
 returns : tie.Need-returns
 returns c = cc
 
 pub kind-known-spec : {M : Type 1} → statement M
-kind-known-spec = tie.close (tie.spec word-requires returns)
+kind-known-spec = tie.close (tie.spec (λ c κs. search needs) returns)

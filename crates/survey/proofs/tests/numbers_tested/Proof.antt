@@ -9,21 +9,6 @@ use Rattle.survey.specs.Tests.{headerTests, courseTests, deadwoodTests}
 use Rattle.survey.proofs.tests.numbers_tested.Statement.{statement}
 use Rattle.survey.proofs.tests.numbers_tested.Tie as tie
 
-header-tested-requires : tie.Need-header-tested-requires
-header-tested-requires c κs = search needs
-
-courses-tested-requires : tie.Need-courses-tested-requires
-courses-tested-requires c κs = search needs
-
-deadwood-tested-requires : tie.Need-deadwood-tested-requires
-deadwood-tested-requires c κs = search needs
-
-then-requires : tie.Need-then-requires
-then-requires c κs = search needs
-
-then-requires-2 : tie.Need-then-requires-2
-then-requires-2 c κs = search needs
-
 returns : tie.Need-returns
 returns c =
     let s = c .before .before .before .before .before .before .args .s .now in
@@ -38,10 +23,5 @@ returns c =
 pub numbers-tested-spec : {M : Type 1} → statement M
 numbers-tested-spec =
     tie.close
-    (tie.spec
-    header-tested-requires
-    courses-tested-requires
-    deadwood-tested-requires
-    then-requires
-    then-requires-2
-    returns)
+    (tie.spec (λ c κs. search needs) (λ c κs. search needs) (λ c κs. search needs) (λ c κs. search needs)
+    (λ c κs. search needs) returns)

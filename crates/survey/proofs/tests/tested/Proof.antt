@@ -62,12 +62,6 @@ rest c =
     )
     (verdict-append (numberTests s) _)
 
-size-fits-requires : tie.Need-size-fits-requires
-size-fits-requires c κs = search needs
-
-refused-requires : tie.Need-refused-requires
-refused-requires c κs = search needs
-
 returns : tie.Need-returns
 unfolding tests
 returns c = rw (sym (c .before .before .size-fits .ensures) ∙ not-true _ (c .before .if1 .taken)) (c .refused .ensures)
@@ -75,18 +69,12 @@ returns c = rw (sym (c .before .before .size-fits .ensures) ∙ not-true _ (c .b
 counts-fit-requires : tie.Need-counts-fit-requires
 counts-fit-requires c κs = within-pass headerSize (length (c .before .before .before .args .s .now)) 65536 (size c) .0
 
-refused-requires-2 : tie.Need-refused-requires-2
-refused-requires-2 c κs = search needs
-
 returns-2 : tie.Need-returns-2
 unfolding tests
 returns-2 c = rw (size (c .before .before .before), sym (c .before .before .counts-fit .ensures) ∙ not-true _ (c .before .if2 .taken)) (c .refused2 .ensures)
 
 sections-placed-requires : tie.Need-sections-placed-requires
 sections-placed-requires c κs = within-pass headerSize (length (c .before .before .before .before .before .args .s .now)) 65536 (size (c .before .before)) .0
-
-refused-requires-3 : tie.Need-refused-requires-3
-refused-requires-3 c κs = search needs
 
 returns-3 : tie.Need-returns-3
 unfolding tests
@@ -100,9 +88,6 @@ returns-3 c =
 
 kind-known-requires : tie.Need-kind-known-requires
 kind-known-requires c κs = inside c .header
-
-refused-requires-4 : tie.Need-refused-requires-4
-refused-requires-4 c κs = search needs
 
 returns-4 : tie.Need-returns-4
 unfolding tests
@@ -118,20 +103,11 @@ returns-4 c =
 numbers-tested-requires : tie.Need-numbers-tested-requires
 numbers-tested-requires c κs = inside (c .before .before)
 
-enum-known-numbers : tie.Need-enum-known-numbers
-enum-known-numbers c = search needs
-
 returns-5 : tie.Need-returns-5
 returns-5 c = rw (rest (c .before .before .before .before), ← c .before .before .before .numbers-tested .ensures, c .before .numbers .given .1)
 
-enum-told : tie.Need-enum-told
-enum-told c = search needs
-
 lengths-add-up-requires : tie.Need-lengths-add-up-requires
 lengths-add-up-requires c κs = within-limits c
-
-refused-requires-5 : tie.Need-refused-requires-5
-refused-requires-5 c κs = search needs
 
 returns-6 : tie.Need-returns-6
 returns-6 c =
@@ -144,9 +120,6 @@ returns-6 c =
 
 diameters-fit-requires : tie.Need-diameters-fit-requires
 diameters-fit-requires c κs = within-limits (c .before .before)
-
-refused-requires-6 : tie.Need-refused-requires-6
-refused-requires-6 c κs = search needs
 
 returns-7 : tie.Need-returns-7
 returns-7 c =
@@ -170,27 +143,7 @@ returns-8 c =
 pub tested-spec : {M : Type 1} → statement M
 tested-spec =
     tie.close
-    (tie.spec
-    size-fits-requires
-    refused-requires
-    returns
-    counts-fit-requires
-    refused-requires-2
-    returns-2
-    sections-placed-requires
-    refused-requires-3
-    returns-3
-    kind-known-requires
-    refused-requires-4
-    returns-4
-    numbers-tested-requires
-    enum-known-numbers
-    returns-5
-    enum-told
-    lengths-add-up-requires
-    refused-requires-5
-    returns-6
-    diameters-fit-requires
-    refused-requires-6
-    returns-7
-    returns-8)
+    (tie.spec (λ c κs. search needs) (λ c κs. search needs) returns counts-fit-requires (λ c κs. search needs)
+    returns-2 sections-placed-requires (λ c κs. search needs) returns-3 kind-known-requires (λ c κs. search needs)
+    returns-4 numbers-tested-requires (λ c. search needs) returns-5 (λ c. search needs) lengths-add-up-requires
+    (λ c κs. search needs) returns-6 diameters-fit-requires (λ c κs. search needs) returns-7 returns-8)

@@ -22,15 +22,6 @@ module _ (w : ℕ) (fits : w < 2 ^ 32) (high : 2 ^ 31 ≤ w) where
   lowered-fits : SFits w64 (negsuc (2 ^ 32 - 1 - w))
   lowered-fits = record { sfits = omega arith }
 
-word-requires : tie.Need-word-requires
-word-requires c κs = search needs
-
-cast-result : tie.Need-cast-result
-cast-result c = search needs
-
-cast-result-2 : tie.Need-cast-result-2
-cast-result-2 c = search needs
-
 sub-result : tie.Need-sub-result
 sub-result c =
     let w = c .before .word in
@@ -51,4 +42,5 @@ returns-2 c =
 
 pub signed-word-spec : {M : Type 1} → statement M
 signed-word-spec =
-    tie.close (tie.spec word-requires cast-result cast-result-2 sub-result returns returns-2)
+    tie.close
+    (tie.spec (λ c κs. search needs) (λ c. search needs) (λ c. search needs) sub-result returns returns-2)

@@ -28,9 +28,6 @@ loop-holds c = (omega arith, filled-none _ _)
 mul-size : tie.Need-mul-size Inv-loop μ-loop
 mul-size c = omega (arith, c .before .before .before .good)
 
-shared-slice-copy-out-size : tie.Need-shared-slice-copy-out-size Inv-loop μ-loop
-shared-slice-copy-out-size c = omega arith
-
 size-requires : tie.Need-size-requires Inv-loop μ-loop
 size-requires c κs =
     let net = c .before .before .before .before .args .net .now in
@@ -47,12 +44,6 @@ mul-table c = omega (arith, c .before .before .before .before .before .good)
 slice-write-table : tie.Need-slice-write-table Inv-loop μ-loop
 slice-write-table c = omega (arith, c .before .before .before .loop .inv .1 .size)
 
-add-i : tie.Need-add-i Inv-loop μ-loop
-add-i c = omega arith
-
-loop-less : tie.Need-loop-less Inv-loop μ-loop
-loop-less c = omega arith
-
 loop-again : tie.Need-loop-again Inv-loop μ-loop
 loop-again c =
     (omega arith, rw (cell c) (filled-more (omega arith) (c .before .before .before .loop .inv .1)))
@@ -68,18 +59,5 @@ returns c =
 pub copy-rows-spec : {M : Type 1} → statement M
 copy-rows-spec =
     tie.close
-    (tie.spec
-    Inv-loop
-    μ-loop
-    loop-holds
-    mul-size
-    shared-slice-copy-out-size
-    size-requires
-    cast-table
-    mul-table
-    slice-write-table
-    add-i
-    loop-less
-    loop-again
-    same-length
-    returns)
+    (tie.spec Inv-loop μ-loop loop-holds mul-size (λ c. omega arith) size-requires cast-table mul-table
+    slice-write-table (λ c. omega arith) (λ c. omega arith) loop-again same-length returns)

@@ -12,25 +12,10 @@ returns c =
     let a = c .before .before .args in
     (rw (lt-leb (a .rows) (length (a .table .now)) (omega arith)) refl, refl)
 
-rows-tested-requires : tie.Need-rows-tested-requires
-rows-tested-requires c κs = search needs
-
-enum-known-v : tie.Need-enum-known-v
-enum-known-v c = search needs
-
-enum-told : tie.Need-enum-told
-enum-told c = search needs
-
-copy-rows-requires : tie.Need-copy-rows-requires
-copy-rows-requires c κs = search needs
-
 returns-2 : tie.Need-returns-2
 returns-2 c =
     let a = c .before .before .before .before .before .before .args in
     (rw (le-leb (a .rows) (length (a .table .now)) (omega arith)) (sym (c .before .v .given .1) ∙ c .before .before .before .rows-tested .ensures), refl)
-
-same-length : tie.Need-same-length
-same-length c = search needs
 
 returns-3 : tie.Need-returns-3
 returns-3 c =
@@ -40,12 +25,5 @@ returns-3 c =
 pub test-and-copy-spec : {M : Type 1} → statement M
 test-and-copy-spec =
     tie.close
-    (tie.spec
-    returns
-    rows-tested-requires
-    enum-known-v
-    enum-told
-    copy-rows-requires
-    returns-2
-    same-length
-    returns-3)
+    (tie.spec returns (λ c κs. search needs) (λ c. search needs) (λ c. search needs) (λ c κs. search needs) returns-2
+    (λ c. search needs) returns-3)

@@ -16,33 +16,15 @@ record-of : {a b x y : ℕ} {v w : ℤ} → a ≡ b → x ≡ y → v ≡ w
     → _≡_ {A = Deadwood} (record { low = a; high = x; volume = v }) (record { low = b; high = y; volume = w })
 record-of p q r = λ i. record { low = p i; high = q i; volume = r i }
 
-word-requires : tie.Need-word-requires
-word-requires c κs = search needs
-
-cast-at : tie.Need-cast-at
-cast-at c = search needs
-
-mul-at : tie.Need-mul-at
-mul-at c = search needs
-
-add-at : tie.Need-add-at
-add-at c = search needs
-
 word-requires-2 : tie.Need-word-requires-2
 word-requires-2 c κs =
     let start = c .before .before in
     omega (arith, c .word .ensures, start .pre .0 .item (start .args .i) (start .pre .1) .inside)
 
-add-word : tie.Need-add-word
-add-word c = search needs
-
 word-requires-3 : tie.Need-word-requires-3
 word-requires-3 c κs =
     let start = c .before .before .before in
     omega (arith, c .before .word .ensures, start .pre .0 .item (start .args .i) (start .pre .1) .inside)
-
-add-signed-word : tie.Need-add-signed-word
-add-signed-word c = search needs
 
 signed-word-requires : tie.Need-signed-word-requires
 signed-word-requires c κs =
@@ -63,14 +45,5 @@ returns c =
 pub item-spec : {M : Type 1} → statement M
 item-spec =
     tie.close
-    (tie.spec
-    word-requires
-    cast-at
-    mul-at
-    add-at
-    word-requires-2
-    add-word
-    word-requires-3
-    add-signed-word
-    signed-word-requires
-    returns)
+    (tie.spec (λ c κs. search needs) (λ c. search needs) (λ c. search needs) (λ c. search needs) word-requires-2
+    (λ c. search needs) word-requires-3 (λ c. search needs) signed-word-requires returns)

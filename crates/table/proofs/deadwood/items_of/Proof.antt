@@ -44,9 +44,6 @@ array-set-from-items c = omega (arith, below (c .before), fewer (c .before))
 add-read : tie.Need-add-read Inv-loop μ-loop
 add-read c = omega (arith, below (c .before), fewer (c .before))
 
-loop-less : tie.Need-loop-less Inv-loop μ-loop
-loop-less c = omega arith
-
 loop-again : tie.Need-loop-again Inv-loop μ-loop
 loop-again c = (omega arith, rw (c .item .ensures) (filled-more (omega (arith, below (c .before), fewer (c .before))) (c .before .before .loop .inv .1)))
 
@@ -58,16 +55,5 @@ returns c =
 pub items-of-spec : {M : Type 1} → statement M
 items-of-spec =
     tie.close
-    (tie.spec
-    Inv-loop
-    μ-loop
-    word-requires
-    cast-count
-    loop-holds
-    item-requires
-    mul-items
-    array-set-from-items
-    add-read
-    loop-less
-    loop-again
-    returns)
+    (tie.spec Inv-loop μ-loop word-requires cast-count loop-holds item-requires mul-items array-set-from-items
+    add-read (λ c. omega arith) loop-again returns)

@@ -9,9 +9,6 @@ use borrow.Author.Needs.{needs}
 use Rattle.table.proofs.deadwood.share_at.Statement.{statement}
 use Rattle.table.proofs.deadwood.share_at.Tie as tie
 
-share-of-requires : tie.Need-share-of-requires
-share-of-requires c κs = search needs
-
 returns : tie.Need-returns
 returns c =
     let start = c .before .before in
@@ -21,4 +18,4 @@ returns c =
     ∙ ap (λ z. share (d .low) (d .high) z (start .args .h)) (toZ-ofZ w64 (d .volume) (record { sfits = omega (arith, mag-at-most (d .volume), start .pre .1) }))
 
 pub share-at-spec : {M : Type 1} → statement M
-share-at-spec = tie.close (tie.spec share-of-requires returns)
+share-at-spec = tie.close (tie.spec (λ c κs. search needs) returns)

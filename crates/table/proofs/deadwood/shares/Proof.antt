@@ -17,15 +17,6 @@ use Rattle.table.proofs.deadwood.shares.Tie as tie
 read : (c : tie.After-items-of) → take (c .before .word .result) (c .items-of .result) ≡ itemsOf (c .before .before .before .args .s .now)
 read c = ap (λ (n : ℕ). take n (c .items-of .result)) (c .before .word .ensures) ∙ c .items-of .ensures
 
-word-requires : tie.Need-word-requires
-word-requires c κs = search needs
-
-cast-count : tie.Need-cast-count
-cast-count c = search needs
-
-items-of-requires : tie.Need-items-of-requires
-items-of-requires c κs = search needs
-
 sum-of-first-requires : tie.Need-sum-of-first-requires
 sum-of-first-requires c κs =
     let start = c .before .before .before in
@@ -40,4 +31,6 @@ returns c =
     ∙ shares-are (start .args .s .now) (start .args .h)
 
 pub shares-spec : {M : Type 1} → statement M
-shares-spec = tie.close (tie.spec word-requires cast-count items-of-requires sum-of-first-requires returns)
+shares-spec =
+    tie.close
+    (tie.spec (λ c κs. search needs) (λ c. search needs) (λ c κs. search needs) sum-of-first-requires returns)

@@ -11,18 +11,6 @@ use Rattle.table.proofs.make.answer.Tie as tie
 count : (c : tie.After-row-count) → c .row-count .result ≡ rowCount (diameterUnits (c .before .before .before .before .before .before .before .args .v .dh)) (c .before .before .before .before .before .before .before .args .v .step)
 count c = c .row-count .ensures ∙ ap (λ (n : ℕ). rowCount n (c .before .before .before .before .before .before .before .args .v .step)) (c .before .units .ensures)
 
-enum-known-verdict : tie.Need-enum-known-verdict
-enum-known-verdict c = search needs
-
-enum-told : tie.Need-enum-told
-enum-told c = search needs
-
-units-requires : tie.Need-units-requires
-units-requires c κs = search needs
-
-row-count-requires : tie.Need-row-count-requires
-row-count-requires c κs = search needs
-
 cast-t10 : tie.Need-cast-t10
 cast-t10 c =
     let start = c .before .before .before .before .before .before .before in
@@ -39,11 +27,5 @@ returns-2 c = rw (c .before .before .enum-told .given .1, count c)
 pub answer-spec : {M : Type 1} → statement M
 answer-spec =
     tie.close
-    (tie.spec
-    enum-known-verdict
-    enum-told
-    units-requires
-    row-count-requires
-    cast-t10
-    returns
+    (tie.spec (λ c. search needs) (λ c. search needs) (λ c κs. search needs) (λ c κs. search needs) cast-t10 returns
     returns-2)

@@ -40,22 +40,13 @@ few c =
     let a = sound-file (c .before .before .before .before .before) in
     rw (rows-are c) (few-rows (dh s) (step s) (a .dhHigh) (a .stepLow))
 
-units-requires : tie.Need-units-requires
-units-requires c κs = search needs
-
 row-count-requires : tie.Need-row-count-requires
 row-count-requires c κs = omega (arith, step-is (c .before .before .before .before), sound-file (c .before .before .before .before) .stepLow)
-
-slice-aggregate-net-rows : tie.Need-slice-aggregate-net-rows
-slice-aggregate-net-rows c = search needs
 
 net-rows-requires : tie.Need-net-rows-requires
 net-rows-requires c κs =
     let start = c .before .before .before .before .before .before in
     (sound-file start, start .pre .0, rows-are (c .before), few (c .before))
-
-slice-aggregate-test-and-copy : tie.Need-slice-aggregate-test-and-copy
-slice-aggregate-test-and-copy c = search needs
 
 test-and-copy-requires : tie.Need-test-and-copy-requires
 test-and-copy-requires c κs =
@@ -67,9 +58,6 @@ test-and-copy-requires c κs =
       omega (arith, few (c .before .before .before .before .before)),
       λ i l. rw (front-row (netRow s) rows _ i l) (net-small s (heightOf s i) (sound-file start)),
     )
-
-same-length : tie.Need-same-length
-same-length c = search needs
 
 returns : tie.Need-returns
 unfolding tableTests
@@ -94,12 +82,5 @@ returns c =
 pub fill-spec : {M : Type 1} → statement M
 fill-spec =
     tie.close
-    (tie.spec
-    units-requires
-    row-count-requires
-    slice-aggregate-net-rows
-    net-rows-requires
-    slice-aggregate-test-and-copy
-    test-and-copy-requires
-    same-length
-    returns)
+    (tie.spec (λ c κs. search needs) row-count-requires (λ c. search needs) net-rows-requires (λ c. search needs)
+    test-and-copy-requires (λ c. search needs) returns)

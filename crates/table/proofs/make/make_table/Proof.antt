@@ -19,15 +19,6 @@ sound : (c : tie.After-decoded2)
     → (verdict (tests (c .before .before .before .before .before .args .survey .now)) ≡ Sound) × (c .decoded2 .given .0 .0 ≡ surveyOf (c .before .before .before .before .before .args .survey .now))
 sound c = sound-decoded (c .before .before .before .before .before .args .survey .now) (sym (c .before .before .decode .ensures) ∙ c .decoded2 .given .1)
 
-decode-requires : tie.Need-decode-requires
-decode-requires c κs = search needs
-
-enum-known-decoded : tie.Need-enum-known-decoded
-enum-known-decoded c = search needs
-
-enum-known-decoded-2 : tie.Need-enum-known-decoded-2
-enum-known-decoded-2 c = search needs
-
 fill-requires : tie.Need-fill-requires
 fill-requires c κs =
     let told = sound (c .before .before) in
@@ -47,9 +38,6 @@ returns c =
     let refused = refused-first s (length (a .table .now)) (refused-decoded s (sym (c .before .before .before .decode .ensures) ∙ c .before .decoded .given .1)) in
     (sym (ap (λ v. answerBy v (surveyOf s)) refused), (sym (ap (λ v. leftBy v (cellOf s) (rowsIn s) (a .table .now)) refused), tt))
 
-same-length : tie.Need-same-length
-same-length c = search needs
-
 returns-2 : tie.Need-returns-2
 unfolding made tableLeft
 returns-2 c =
@@ -65,12 +53,5 @@ returns-2 c =
 pub make-table-spec : {M : Type 1} → statement M
 make-table-spec =
     tie.close
-    (tie.spec
-    decode-requires
-    enum-known-decoded
-    enum-known-decoded-2
-    fill-requires
-    answer-requires
-    returns
-    same-length
-    returns-2)
+    (tie.spec (λ c κs. search needs) (λ c. search needs) (λ c. search needs) fill-requires answer-requires returns
+    (λ c. search needs) returns-2)

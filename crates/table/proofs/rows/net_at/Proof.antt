@@ -27,12 +27,6 @@ shares-are c =
 cast-minus : tie.Need-cast-minus
 cast-minus c = record { sfits = omega (arith, gross-fits (c .before)) }
 
-units-requires : tie.Need-units-requires
-units-requires c κs = search needs
-
-shares-requires : tie.Need-shares-requires
-shares-requires c κs = search needs
-
 minus-requires : tie.Need-minus-requires
 minus-requires c κs =
     let start = c .before .before .before in (
@@ -49,4 +43,4 @@ returns c =
     ∙ ap₂ _-ℤ_ (toZ-pos w64 (start .args .gross) (omega (arith, gross-fits start)) ∙ ap pos (start .pre .1)) (shares-are (c .before))
 
 pub net-at-spec : {M : Type 1} → statement M
-net-at-spec = tie.close (tie.spec cast-minus units-requires shares-requires minus-requires returns)
+net-at-spec = tie.close (tie.spec cast-minus (λ c κs. search needs) (λ c κs. search needs) minus-requires returns)

@@ -50,12 +50,6 @@ stored c =
     ∙ c .net-at .ensures
     ∙ ap (netAt (start .args .s .now)) (ap dipUnits (c .before .before .before .row-height .ensures) ∙ ap₂ (λ (x y : ℕ). rowHeight x y i) (dh-is (c .before .before .before .before .before .before .before)) (step-is start))
 
-units-requires : tie.Need-units-requires Inv-loop μ-loop
-units-requires c κs = search needs
-
-empty-requires : tie.Need-empty-requires Inv-loop μ-loop
-empty-requires c κs = search needs
-
 loop-holds : tie.Need-loop-holds Inv-loop μ-loop
 loop-holds c = (omega arith, c .empty .ensures _ _, filled-none _ _)
 
@@ -83,12 +77,6 @@ mul-t15 c = omega (arith, c .before .before .before .before .before .before .bef
 slice-set-from-out : tie.Need-slice-set-from-out Inv-loop μ-loop
 slice-set-from-out c = omega (arith, size-kept (c .before .before .before .before))
 
-add-i : tie.Need-add-i Inv-loop μ-loop
-add-i c = omega arith
-
-loop-less : tie.Need-loop-less Inv-loop μ-loop
-loop-less c = omega arith
-
 loop-again : tie.Need-loop-again Inv-loop μ-loop
 loop-again c =
     let start = c .before .before .before .before .before .before .before .before .before .before in
@@ -114,20 +102,6 @@ returns c =
 pub net-rows-spec : {M : Type 1} → statement M
 net-rows-spec =
     tie.close
-    (tie.spec
-    Inv-loop
-    μ-loop
-    units-requires
-    empty-requires
-    loop-holds
-    row-height-requires
-    on-to-requires
-    gross-requires
-    net-at-requires
-    mul-t15
-    slice-set-from-out
-    add-i
-    loop-less
-    loop-again
-    same-length
-    returns)
+    (tie.spec Inv-loop μ-loop (λ c κs. search needs) (λ c κs. search needs) loop-holds row-height-requires
+    on-to-requires gross-requires net-at-requires mul-t15 slice-set-from-out (λ c. omega arith) (λ c. omega arith)
+    loop-again same-length returns)

@@ -27,9 +27,6 @@ cast-with-sign c =
     let size = rw (toZ-ofZ w64 (a .volume) (c .before .before .fits .volume)) at (c .before .size .ensures) in
     omega (arith, c .share-size .ensures, share-size-at-most (a .low) (a .high) (c .before .size .result) (a .h))
 
-with-sign-requires : tie.Need-with-sign-requires
-with-sign-requires c κs = search needs
-
 returns : tie.Need-returns
 unfolding share
 returns c =
@@ -42,6 +39,4 @@ returns c =
     ∙ ap₂ withSign plain (c .before .share-size .ensures ∙ ap (λ (n : ℕ). shareSize (a .low) (a .high) n (a .h)) size)
 
 pub share-of-spec : {M : Type 1} → statement M
-share-of-spec =
-    tie.close
-    (tie.spec size-requires share-size-requires cast-with-sign with-sign-requires returns)
+share-of-spec = tie.close (tie.spec size-requires share-size-requires cast-with-sign (λ c κs. search needs) returns)

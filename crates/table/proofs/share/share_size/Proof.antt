@@ -23,20 +23,8 @@ returns-2 c =
     let a = c .before .before .args in
     sym (share-all (a .low) (a .high) (a .size) (a .h) (omega arith) (omega arith))
 
-sub-nearest-quotient : tie.Need-sub-nearest-quotient
-sub-nearest-quotient c = search needs
-
-cast-nearest-quotient : tie.Need-cast-nearest-quotient
-cast-nearest-quotient c = search needs
-
 mul-nearest-quotient : tie.Need-mul-nearest-quotient
 mul-nearest-quotient c = omega (arith, product-fits (c .before .before))
-
-sub-nearest-quotient-2 : tie.Need-sub-nearest-quotient-2
-sub-nearest-quotient-2 c = search needs
-
-cast-nearest-quotient-2 : tie.Need-cast-nearest-quotient-2
-cast-nearest-quotient-2 c = search needs
 
 nearest-quotient-requires : tie.Need-nearest-quotient-requires
 nearest-quotient-requires c κs = (omega arith, product-fits (c .before .before))
@@ -49,13 +37,5 @@ returns-3 c =
 pub share-size-spec : {M : Type 1} → statement M
 share-size-spec =
     tie.close
-    (tie.spec
-    returns
-    returns-2
-    sub-nearest-quotient
-    cast-nearest-quotient
-    mul-nearest-quotient
-    sub-nearest-quotient-2
-    cast-nearest-quotient-2
-    nearest-quotient-requires
-    returns-3)
+    (tie.spec returns returns-2 (λ c. search needs) (λ c. search needs) mul-nearest-quotient (λ c. search needs)
+    (λ c. search needs) nearest-quotient-requires returns-3)

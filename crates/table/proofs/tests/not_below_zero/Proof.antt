@@ -10,16 +10,10 @@ use borrow.Author.Needs.{needs}
 use Rattle.table.proofs.tests.not_below_zero.Statement.{statement}
 use Rattle.table.proofs.tests.not_below_zero.Tie as tie
 
-mul-result : tie.Need-mul-result
-mul-result c = search needs
-
-shared-slice-copy-out-result : tie.Need-shared-slice-copy-out-result
-shared-slice-copy-out-result c = search needs
-
 returns : tie.Need-returns
 returns c =
     let z = netOf (c .before .args .net .now) (c .before .args .i) in
     ap (leZ (pos 0)) (toZ-ofZ w64 z (record { sfits = c .result .given })) ∙ not-below-zero z
 
 pub not-below-zero-spec : {M : Type 1} → statement M
-not-below-zero-spec = tie.close (tie.spec mul-result shared-slice-copy-out-result returns)
+not-below-zero-spec = tie.close (tie.spec (λ c. search needs) (λ c. search needs) returns)

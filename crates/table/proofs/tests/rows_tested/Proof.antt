@@ -21,35 +21,17 @@ loop-holds : tie.Need-loop-holds Inv-loop μ-loop
 unfolding items
 loop-holds c = (omega arith, refl, refl)
 
-cast-one-test : tie.Need-cast-one-test Inv-loop μ-loop
-cast-one-test c = omega arith
-
-keeps-up-requires : tie.Need-keeps-up-requires Inv-loop μ-loop
-keeps-up-requires c κs = omega arith
-
 one-test-requires : tie.Need-one-test-requires Inv-loop μ-loop
 one-test-requires c κs = tt
 
 then-requires : tie.Need-then-requires Inv-loop μ-loop
 then-requires c κs = tt
 
-cast-one-test-2 : tie.Need-cast-one-test-2 Inv-loop μ-loop
-cast-one-test-2 c = omega arith
-
-not-below-zero-requires : tie.Need-not-below-zero-requires Inv-loop μ-loop
-not-below-zero-requires c κs = omega arith
-
 one-test-requires-2 : tie.Need-one-test-requires-2 Inv-loop μ-loop
 one-test-requires-2 c κs = tt
 
 then-requires-2 : tie.Need-then-requires-2 Inv-loop μ-loop
 then-requires-2 c κs = tt
-
-add-i : tie.Need-add-i Inv-loop μ-loop
-add-i c = omega arith
-
-loop-less : tie.Need-loop-less Inv-loop μ-loop
-loop-less c = omega arith
 
 loop-again : tie.Need-loop-again Inv-loop μ-loop
 loop-again c =
@@ -81,20 +63,6 @@ returns c =
 pub rows-tested-spec : {M : Type 1} → statement M
 rows-tested-spec =
     tie.close
-    (tie.spec
-    Inv-loop
-    μ-loop
-    loop-holds
-    cast-one-test
-    keeps-up-requires
-    one-test-requires
-    then-requires
-    cast-one-test-2
-    not-below-zero-requires
-    one-test-requires-2
-    then-requires-2
-    add-i
-    loop-less
-    loop-again
-    then-requires-3
-    returns)
+    (tie.spec Inv-loop μ-loop loop-holds (λ c. omega arith) (λ c κs. omega arith) one-test-requires then-requires
+    (λ c. omega arith) (λ c κs. omega arith) one-test-requires-2 then-requires-2 (λ c. omega arith) (λ c. omega arith)
+    loop-again then-requires-3 returns)

@@ -7,9 +7,6 @@ use Rattle.text.specs.Lines.{figureLine}
 use Rattle.text.proofs.line.figure_line.Statement.{statement}
 use Rattle.text.proofs.line.figure_line.Tie as tie
 
-empty-requires : tie.Need-empty-requires
-empty-requires c κs = search needs
-
 with-hundredths-requires : tie.Need-with-hundredths-requires
 with-hundredths-requires c κs = omega (arith, hundredths-at-most (c .before .args .n) (omega arith))
 
@@ -21,5 +18,4 @@ unfolding figureLine
 returns c = held (c .before .before .empty .ensures) (added-both (c .before .with-hundredths .ensures) (c .with-byte .ensures))
 
 pub figure-line-spec : {M : Type 1} → statement M
-figure-line-spec =
-    tie.close (tie.spec empty-requires with-hundredths-requires with-byte-requires returns)
+figure-line-spec = tie.close (tie.spec (λ c κs. search needs) with-hundredths-requires with-byte-requires returns)

@@ -7,15 +7,6 @@ use Rattle.text.specs.Lines.{refusedLine}
 use Rattle.text.proofs.line.refused_line.Statement.{statement}
 use Rattle.text.proofs.line.refused_line.Tie as tie
 
-empty-requires : tie.Need-empty-requires
-empty-requires c κs = search needs
-
-slice-aggregate-with-bytes : tie.Need-slice-aggregate-with-bytes
-slice-aggregate-with-bytes c = search needs
-
-with-bytes-requires : tie.Need-with-bytes-requires
-with-bytes-requires c κs = search needs
-
 with-digits-requires : tie.Need-with-digits-requires
 with-digits-requires c κs = omega (arith, digits-at-most (c .before .before .before .args .number) (omega arith))
 
@@ -45,12 +36,5 @@ returns c =
 pub refused-line-spec : {M : Type 1} → statement M
 refused-line-spec =
     tie.close
-    (tie.spec
-    empty-requires
-    slice-aggregate-with-bytes
-    with-bytes-requires
-    with-digits-requires
-    with-byte-requires
-    with-digits-requires-2
-    with-byte-requires-2
-    returns)
+    (tie.spec (λ c κs. search needs) (λ c. search needs) (λ c κs. search needs) with-digits-requires
+    with-byte-requires with-digits-requires-2 with-byte-requires-2 returns)

@@ -7,9 +7,6 @@ use Rattle.text.specs.Lines.{rowLine}
 use Rattle.text.proofs.line.row_line.Statement.{statement}
 use Rattle.text.proofs.line.row_line.Tie as tie
 
-empty-requires : tie.Need-empty-requires
-empty-requires c κs = search needs
-
 with-hundredths-requires : tie.Need-with-hundredths-requires
 with-hundredths-requires c κs = omega (arith, hundredths-at-most (c .before .args .h) (omega arith))
 
@@ -37,10 +34,5 @@ returns c =
 pub row-line-spec : {M : Type 1} → statement M
 row-line-spec =
     tie.close
-    (tie.spec
-    empty-requires
-    with-hundredths-requires
-    with-byte-requires
-    with-hundredths-requires-2
-    with-byte-requires-2
-    returns)
+    (tie.spec (λ c κs. search needs) with-hundredths-requires with-byte-requires with-hundredths-requires-2
+    with-byte-requires-2 returns)

@@ -7,15 +7,6 @@ use Rattle.text.specs.Lines.{rowsLine}
 use Rattle.text.proofs.line.rows_line.Statement.{statement}
 use Rattle.text.proofs.line.rows_line.Tie as tie
 
-empty-requires : tie.Need-empty-requires
-empty-requires c κs = search needs
-
-slice-aggregate-with-bytes : tie.Need-slice-aggregate-with-bytes
-slice-aggregate-with-bytes c = search needs
-
-with-bytes-requires : tie.Need-with-bytes-requires
-with-bytes-requires c κs = search needs
-
 with-digits-requires : tie.Need-with-digits-requires
 with-digits-requires c κs = omega (arith, digits-at-most (c .before .before .before .args .n) (omega arith))
 
@@ -31,10 +22,5 @@ returns c =
 pub rows-line-spec : {M : Type 1} → statement M
 rows-line-spec =
     tie.close
-    (tie.spec
-    empty-requires
-    slice-aggregate-with-bytes
-    with-bytes-requires
-    with-digits-requires
-    with-byte-requires
-    returns)
+    (tie.spec (λ c κs. search needs) (λ c. search needs) (λ c κs. search needs) with-digits-requires
+    with-byte-requires returns)

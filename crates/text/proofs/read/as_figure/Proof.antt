@@ -5,9 +5,6 @@ use Rattle.laws.specs.Order.{pick-le, pick-gt}
 use Rattle.text.proofs.read.as_figure.Statement.{statement}
 use Rattle.text.proofs.read.as_figure.Tie as tie
 
-cast-t4 : tie.Need-cast-t4
-cast-t4 c = search needs
-
 returns : tie.Need-returns
 returns c = sym (pick-le _ _ (c .if1 .taken))
 
@@ -15,4 +12,4 @@ returns-2 : tie.Need-returns-2
 returns-2 c = sym (pick-gt _ _ (c .if1 .left))
 
 pub as-figure-spec : {M : Type 1} → statement M
-as-figure-spec = tie.close (tie.spec cast-t4 returns returns-2)
+as-figure-spec = tie.close (tie.spec (λ c. search needs) returns returns-2)

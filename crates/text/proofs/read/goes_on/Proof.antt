@@ -12,15 +12,8 @@ returns c = rw (List·getD-eq-default (c .before .before .args .s .now) 0 {n = c
 returns-2 : tie.Need-returns-2
 returns-2 c = rw (le-ltb (c .before .before .before .args .at) 8 (c .if2 .taken), and-false)
 
-shared-slice-read-is-digit : tie.Need-shared-slice-read-is-digit
-shared-slice-read-is-digit c = search needs
-
-is-digit-requires : tie.Need-is-digit-requires
-is-digit-requires c κs = search needs
-
 returns-3 : tie.Need-returns-3
 returns-3 c = rw (lt-ltb (c .before .before .before .before .before .args .at) 8 (c .before .before .if2 .left), and-true) (c .is-digit .ensures)
 
 pub goes-on-spec : {M : Type 1} → statement M
-goes-on-spec =
-    tie.close (tie.spec returns returns-2 shared-slice-read-is-digit is-digit-requires returns-3)
+goes-on-spec = tie.close (tie.spec returns returns-2 (λ c. search needs) (λ c κs. search needs) returns-3)

@@ -54,9 +54,6 @@ value-requires c κs = read-here (c .before) .low
 add-whole : tie.Need-add-whole Inv-loop μ-loop
 add-whole c = omega (arith, below (c .before .before .before .before .loop .inv .1) (c .before .before .before .before .loop .inv .2), read-here (c .before .before) .high)
 
-add-i : tie.Need-add-i Inv-loop μ-loop
-add-i c = omega arith
-
 loop-less : tie.Need-loop-less Inv-loop μ-loop
 loop-less c = omega (arith, read-here (c .before .before) .early)
 
@@ -76,15 +73,6 @@ returns c =
     let s = c .before .before .before .before .before .args .s .now in
     sym (read-out (c .before) ∙ ap (λ (n : ℕ). ended n (c .before .before .before .loop .whole) (drop n s)) (c .if2 .taken))
 
-sub-with-decimals : tie.Need-sub-with-decimals Inv-loop μ-loop
-sub-with-decimals c = omega arith
-
-part-with-decimals-start : tie.Need-part-with-decimals-start Inv-loop μ-loop
-part-with-decimals-start c = search needs
-
-part-with-decimals-end : tie.Need-part-with-decimals-end Inv-loop μ-loop
-part-with-decimals-end c = search needs
-
 with-decimals-requires : tie.Need-with-decimals-requires Inv-loop μ-loop
 with-decimals-requires c κs = below (c .before .before .before .before .loop .inv .1) (c .before .before .before .before .loop .inv .2)
 
@@ -99,21 +87,6 @@ returns-2 c =
 pub read-figure-spec : {M : Type 1} → statement M
 read-figure-spec =
     tie.close
-    (tie.spec
-    Inv-loop
-    μ-loop
-    loop-holds
-    goes-on-requires
-    mul-whole
-    shared-slice-read-value
-    value-requires
-    add-whole
-    add-i
-    loop-less
-    loop-again
-    returns
-    sub-with-decimals
-    part-with-decimals-start
-    part-with-decimals-end
-    with-decimals-requires
-    returns-2)
+    (tie.spec Inv-loop μ-loop loop-holds goes-on-requires mul-whole shared-slice-read-value value-requires add-whole
+    (λ c. omega arith) loop-less loop-again returns (λ c. omega arith) (λ c. search needs) (λ c. search needs)
+    with-decimals-requires returns-2)

@@ -31,40 +31,16 @@ decimals-by-length whole (point ∷ tenth ∷ hundredth ∷ more ∷ s) =
     let n = length (point ∷ tenth ∷ hundredth ∷ more ∷ s) in
     rw (ne-eqb n 0 (omega arith), ne-eqb n 2 (omega arith), ne-eqb n 3 (omega arith))
 
-with-point-requires : tie.Need-with-point-requires
-with-point-requires c κs = search needs
-
 returns : tie.Need-returns
 returns c =
     let a = c .before .before .before .args in
     rw (decimals-by-length (a .whole) (a .s .now), eq-eqb (length (a .s .now)) 0 (c .before .if1 .taken)) (c .with-point .ensures)
-
-shared-slice-read-with-point : tie.Need-shared-slice-read-with-point
-shared-slice-read-with-point c = search needs
-
-shared-slice-read-with-point-2 : tie.Need-shared-slice-read-with-point-2
-shared-slice-read-with-point-2 c = search needs
-
-with-point-requires-2 : tie.Need-with-point-requires-2
-with-point-requires-2 c κs = search needs
 
 returns-2 : tie.Need-returns-2
 returns-2 c =
     let a = c .before .before .before .before .before .before .args in
     let n = length (a .s .now) in
     rw (decimals-by-length (a .whole) (a .s .now), ne-eqb n 0 (omega arith), eq-eqb n 2 (omega arith)) (c .with-point2 .ensures)
-
-shared-slice-read-with-point-3 : tie.Need-shared-slice-read-with-point-3
-shared-slice-read-with-point-3 c = search needs
-
-shared-slice-read-with-point-4 : tie.Need-shared-slice-read-with-point-4
-shared-slice-read-with-point-4 c = search needs
-
-shared-slice-read-with-point-5 : tie.Need-shared-slice-read-with-point-5
-shared-slice-read-with-point-5 c = search needs
-
-with-point-requires-3 : tie.Need-with-point-requires-3
-with-point-requires-3 c κs = search needs
 
 returns-3 : tie.Need-returns-3
 returns-3 c =
@@ -81,16 +57,5 @@ returns-4 c =
 pub with-decimals-spec : {M : Type 1} → statement M
 with-decimals-spec =
     tie.close
-    (tie.spec
-    with-point-requires
-    returns
-    shared-slice-read-with-point
-    shared-slice-read-with-point-2
-    with-point-requires-2
-    returns-2
-    shared-slice-read-with-point-3
-    shared-slice-read-with-point-4
-    shared-slice-read-with-point-5
-    with-point-requires-3
-    returns-3
-    returns-4)
+    (tie.spec (λ c κs. search needs) returns (λ c. search needs) (λ c. search needs) (λ c κs. search needs) returns-2
+    (λ c. search needs) (λ c. search needs) (λ c. search needs) (λ c κs. search needs) returns-3 returns-4)

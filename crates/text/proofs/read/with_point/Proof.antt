@@ -11,42 +11,21 @@ use Rattle.text.proofs.read.with_point.Tie as tie
 returns : tie.Need-returns
 returns c = rw (ne-eqb (c .before .args .point) 46 (c .if1 .taken))
 
-is-digit-requires : tie.Need-is-digit-requires
-is-digit-requires c κs = search needs
-
 returns-2 : tie.Need-returns-2
 returns-2 c =
     let no = sym (c .before .is-digit .ensures) ∙ not-true _ (c .if2 .taken) in
     simp (no, and-false)
-
-is-digit-requires-2 : tie.Need-is-digit-requires-2
-is-digit-requires-2 c κs = search needs
 
 returns-3 : tie.Need-returns-3
 returns-3 c =
     let no = sym (c .before .is-digit2 .ensures) ∙ not-true _ (c .if3 .taken) in
     simp (no, and-false)
 
-mul-as-figure : tie.Need-mul-as-figure
-mul-as-figure c = search needs
-
 value-requires : tie.Need-value-requires
 value-requires c κs = digit-within _ (sym (c .before .before .before .is-digit .ensures) ∙ not-false _ (c .before .before .if2 .left)) .0
 
-mul-as-figure-2 : tie.Need-mul-as-figure-2
-mul-as-figure-2 c = search needs
-
-add-as-figure : tie.Need-add-as-figure
-add-as-figure c = search needs
-
 value-requires-2 : tie.Need-value-requires-2
 value-requires-2 c κs = digit-within _ (sym (c .before .before .is-digit2 .ensures) ∙ not-false _ (c .before .if3 .left)) .0
-
-add-as-figure-2 : tie.Need-add-as-figure-2
-add-as-figure-2 c = search needs
-
-as-figure-requires : tie.Need-as-figure-requires
-as-figure-requires c κs = search needs
 
 returns-4 : tie.Need-returns-4
 returns-4 c =
@@ -60,17 +39,6 @@ returns-4 c =
 pub with-point-spec : {M : Type 1} → statement M
 with-point-spec =
     tie.close
-    (tie.spec
-    returns
-    is-digit-requires
-    returns-2
-    is-digit-requires-2
-    returns-3
-    mul-as-figure
-    value-requires
-    mul-as-figure-2
-    add-as-figure
-    value-requires-2
-    add-as-figure-2
-    as-figure-requires
+    (tie.spec returns (λ c κs. search needs) returns-2 (λ c κs. search needs) returns-3 (λ c. search needs)
+    value-requires (λ c. search needs) (λ c. search needs) value-requires-2 (λ c. search needs) (λ c κs. search needs)
     returns-4)

@@ -6,18 +6,6 @@ use Rattle.measure.specs.Quantity.{shellHeight}
 use Rattle.measure.proofs.shell_height.ShellHeight.corrected.Statement.{statement}
 use Rattle.measure.proofs.shell_height.ShellHeight.corrected.Tie as tie
 
-units-requires : tie.Need-units-requires
-units-requires c κs = search needs
-
-units-requires-2 : tie.Need-units-requires-2
-units-requires-2 c κs = search needs
-
-units-requires-3 : tie.Need-units-requires-3
-units-requires-3 c κs = search needs
-
-corrected-units-requires : tie.Need-corrected-units-requires
-corrected-units-requires c κs = search needs
-
 returns : tie.Need-returns
 returns c =
     let part = c .before .before .before .units .ensures in
@@ -28,4 +16,4 @@ returns c =
 pub corrected-spec : {M : Type 1} → statement M
 corrected-spec =
     tie.close
-    (tie.spec units-requires units-requires-2 units-requires-3 corrected-units-requires returns)
+    (tie.spec (λ c κs. search needs) (λ c κs. search needs) (λ c κs. search needs) (λ c κs. search needs) returns)

@@ -4,12 +4,6 @@ use Rattle.table.specs.Filling.{not-above-start}
 use Rattle.table.proofs.filling.Filling.empty.Statement.{statement}
 use Rattle.table.proofs.filling.Filling.empty.Tie as tie
 
-start-requires : tie.Need-start-requires
-start-requires c κs = search needs
-
-start-requires-2 : tie.Need-start-requires-2
-start-requires-2 c κs = search needs
-
 returns : tie.Need-returns
 returns c v h = record {
   shell = not-above-start _ _ _ (c .before .start .ensures _);
@@ -17,4 +11,4 @@ returns c v h = record {
 }
 
 pub empty-spec : {M : Type 1} → statement M
-empty-spec = tie.close (tie.spec start-requires start-requires-2 returns)
+empty-spec = tie.close (tie.spec (λ c κs. search needs) (λ c κs. search needs) returns)

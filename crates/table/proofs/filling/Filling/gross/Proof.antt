@@ -43,27 +43,12 @@ added c = omega (arith, shell-volume (c .before .before .before .before .before)
 fits : (c : tie.After-heads-volume) → c .before .before .before .before .before .cylinder-volume .result + c .before .before .cylinder-volume2 .result + c .heads-volume .result ≤ 160000000
 fits c = rw (added c) (gross-small (c .before .before .before .before .before .before .before .before .before .before .before .before .args .v) (dipUnits (c .before .before .before .before .before .before .before .before .before .before .before .before .args .h)) (c .before .before .before .before .before .before .before .before .before .before .before .before .pre .0))
 
-area-requires : tie.Need-area-requires
-area-requires c κs = search needs
-
-cast-cylinder-volume : tie.Need-cast-cylinder-volume
-cast-cylinder-volume c = search needs
-
 cylinder-volume-requires : tie.Need-cylinder-volume-requires
 cylinder-volume-requires c κs =
     let start = c .before .before .before .before .before .before in
     let v = start .args .v in
     let l = start .pre .0 in
     rw (shell-area (c .before)) (omega (arith, cylinder-product (diameterUnits (v .d1)) (v .l1) (shellAt v (dipUnits (start .args .h))) (corrected-at-most _ _ _) (l .d1-high) (l .l1-high)))
-
-area-requires-2 : tie.Need-area-requires-2
-area-requires-2 c κs = search needs
-
-cast-cylinder-volume-2 : tie.Need-cast-cylinder-volume-2
-cast-cylinder-volume-2 c = search needs
-
-mul-cylinder-volume : tie.Need-mul-cylinder-volume
-mul-cylinder-volume c = search needs
 
 cylinder-volume-requires-2 : tie.Need-cylinder-volume-requires-2
 cylinder-volume-requires-2 c κs =
@@ -72,9 +57,6 @@ cylinder-volume-requires-2 c κs =
     let l = start .pre .0 in
     rw (flange-area (c .before))
     (omega (arith, cylinder-product (diameterUnits (v .d2)) (2 * v .l2) (headsAt v (dipUnits (start .args .h))) (corrected-at-most _ _ _) (l .d2-high) (omega (arith, l .l2-high))))
-
-corrected-requires : tie.Need-corrected-requires
-corrected-requires c κs = search needs
 
 heads-volume-requires : tie.Need-heads-volume-requires
 heads-volume-requires c κs =
@@ -94,16 +76,6 @@ returns c = added c
 pub gross-spec : {M : Type 1} → statement M
 gross-spec =
     tie.close
-    (tie.spec
-    area-requires
-    cast-cylinder-volume
-    cylinder-volume-requires
-    area-requires-2
-    cast-cylinder-volume-2
-    mul-cylinder-volume
-    cylinder-volume-requires-2
-    corrected-requires
-    heads-volume-requires
-    add-result
-    add-result-2
-    returns)
+    (tie.spec (λ c κs. search needs) (λ c. search needs) cylinder-volume-requires (λ c κs. search needs)
+    (λ c. search needs) (λ c. search needs) cylinder-volume-requires-2 (λ c κs. search needs) heads-volume-requires
+    add-result add-result-2 returns)

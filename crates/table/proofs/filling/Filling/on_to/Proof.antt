@@ -19,17 +19,11 @@ ready : (d dh dip : ℕ) {w : Walk} {h : ShellHeight} → NotAbove d (correctedH
     → (w ≡ walkAt d (w .level)) × (w .level ≤ shellUnits h) × (shellUnits h ≤ d) × (d < 2 ^ 31)
 ready d dh dip n high e = rw e (n .stands, n .below, corrected-at-most d dh dip, omega arith)
 
-corrected-requires : tie.Need-corrected-requires
-corrected-requires c κs = search needs
-
 on-to-requires : tie.Need-on-to-requires
 on-to-requires c κs =
     let start = c .before .before .before .before .before in
     let a = start .args in
     ready (diameterUnits (a .v .d1)) (diameterUnits (a .v .dh)) (dipUnits (a .h)) (start .pre .1 .shell) (start .pre .0 .d1-high) (c .corrected .ensures)
-
-corrected-requires-2 : tie.Need-corrected-requires-2
-corrected-requires-2 c κs = search needs
 
 on-to-requires-2 : tie.Need-on-to-requires-2
 on-to-requires-2 c κs =
@@ -45,6 +39,4 @@ returns c =
     (c .on-to2 .ensures ∙ ap (λ x. walkAt (diameterUnits (a .v .d2)) (shellUnits x)) (c .before .corrected2 .ensures))
 
 pub on-to-spec : {M : Type 1} → statement M
-on-to-spec =
-    tie.close
-    (tie.spec corrected-requires on-to-requires corrected-requires-2 on-to-requires-2 returns)
+on-to-spec = tie.close (tie.spec (λ c κs. search needs) on-to-requires (λ c κs. search needs) on-to-requires-2 returns)
