@@ -6,7 +6,7 @@ use lib.IntN.{ℤ, _+ℤ_}
 use lib.Signed.{mag}
 use mir.Syntax.{w64}
 use mir.Val.{SFits}
-use Rattle.laws.specs.Signed.{sum-size}
+use Rattle.laws.specs.SignedLaws.{sum-size}
 
 pub small-fits : {z : ℤ} → mag z ≤ 2 ^ 61 → SFits w64 z
 small-fits {z} h = record { sfits = omega arith }

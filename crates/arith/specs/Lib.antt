@@ -1,1 +1,2 @@
-pub mod Quotient
+-- What the code that divides a product keeps. The definitions that the contracts cite stand in laws.
+pub mod QuotientLaws

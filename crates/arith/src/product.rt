@@ -2,7 +2,7 @@
 ghost use mathlib.Core.Path.{_≡_};
 ghost use Prim.Native.Nat.{_+_, _*_, _^_, _≤_, _<_};
 ghost use Rattle.laws.specs.Nearest.{nearest};
-ghost use Rattle.arith.specs.Quotient.{Divided};
+ghost use Rattle.arith.specs.QuotientLaws.{Divided};
 use crate::nearest::round_rest;
 
 // A number kept as quotient · divisor + rest, for a divisor that goes beside it.

@@ -1,5 +1,5 @@
--- The answers as plain numbers, and what they tell: condition 3 of the rows counted, that 0 is no refusal, the lowest height.
+-- The answers as plain numbers, what they promise of rows and heights, and that 0 is no refusal.
 pub mod Numbers
-pub mod Slabs
-pub mod Refusals
-pub mod Reached
+pub mod Promises
+pub mod RefusalLaws
+pub mod PromiseLaws

@@ -2,11 +2,11 @@
 // slices alone. A slice is a pointer and a length to C. Nothing is asked of a caller but that these are what they say.
 ghost use mathlib.Core.Path.{_≡_};
 ghost use lib.ListN.{length};
+ghost use Rattle.survey.specs.Survey.{decoded};
 ghost use Rattle.table.specs.Answer.{made, tableLeft};
 ghost use Rattle.lookup.specs.Answer.{litresAnswer, heightAnswer};
 ghost use Rattle.capi.specs.Numbers.{tableNumbers, litresNumbers, heightNumbers};
-ghost use Rattle.capi.specs.Slabs.{Condition3Counted};
-ghost use Rattle.capi.specs.Reached.{LowestAnswered};
+ghost use Rattle.capi.specs.Promises.{Condition3Counted, LowestAnswered};
 use lookup::height::height_for;
 use lookup::litres::litres_at;
 use measure::dip_height::DipHeight;
@@ -24,9 +24,9 @@ pub mod numbers;
 // The table of a survey, from the start of the lent table; a refusal leaves it as it was.
 #[no_mangle]
 pub extern "C" fn milechime_table(survey: &[u8], table: &mut [u32]) -> TableNumbers
-    ensures { λ r. ⌜ r ≡ tableNumbers (made (now (survey .entry)) (length (now (table .entry)))) ⌝ }
-    ensures { λ r. ⌜ now (table .exit) ≡ tableLeft (now (survey .entry)) (now (table .entry)) ⌝ }
-    ensures { λ r. ⌜ Condition3Counted (now (survey .entry)) (r .rows) (now (table .exit)) ⌝ }
+    ensures { λ r. ⌜ r ≡ tableNumbers (made (decoded (now (survey .entry))) (length (now (table .entry)))) ⌝ }
+    ensures { λ r. ⌜ now (table .exit) ≡ tableLeft (decoded (now (survey .entry))) (now (table .entry)) ⌝ }
+    ensures { λ r. ⌜ Condition3Counted (decoded (now (survey .entry)) .survey) (r .rows) (now (table .exit)) ⌝ }
 {
     table_numbers(make_table(survey, table))
 }

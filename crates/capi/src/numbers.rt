@@ -1,5 +1,5 @@
 // An answer as plain numbers, laid out as C lays them out: the refusal's number and place, both 0 where nothing is refused, and
-// the figures, all 0 in a refusal. No refusal has number 0 (specs/Refusals.antt).
+// the figures, all 0 in a refusal. No refusal has number 0 (specs/RefusalLaws.antt).
 ghost use mathlib.Core.Path.{_≡_};
 ghost use Rattle.capi.specs.Numbers.{tableNumbers, litresNumbers, heightNumbers};
 use lookup::height::HeightAnswer;

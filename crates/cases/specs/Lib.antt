@@ -1,3 +1,2 @@
 -- Document 01's readings that are marked P, and its example survey.
-pub mod SixRows
-pub mod Readings
+pub mod ReadingLaws

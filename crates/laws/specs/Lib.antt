@@ -1,10 +1,20 @@
--- The laws that every crate above cites: order, finite sums, the integer root, `nearest`, the floor half of a signed
--- difference, and lists that are filled from the front. Assumes nothing.
+-- What every crate above cites: picking by a test (Order), tests over numbers (Search), finite sums (Sum, and of signed numbers
+-- Signed), the integer root (Root), the nearest quotient (Nearest), the floor half of a signed difference (Half), and lists by their
+-- rows (Fill). The other files are laws.
 pub mod Order
-pub mod Sum
-pub mod Root
-pub mod Nearest
-pub mod Half
-pub mod Signed
-pub mod Fill
+pub mod OrderLaws
+pub mod BoolLaws
 pub mod Search
+pub mod SearchLaws
+pub mod Sum
+pub mod SumLaws
+pub mod Root
+pub mod RootLaws
+pub mod Nearest
+pub mod NearestLaws
+pub mod Half
+pub mod HalfLaws
+pub mod Signed
+pub mod SignedLaws
+pub mod Fill
+pub mod FillLaws

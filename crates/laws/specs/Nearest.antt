@@ -1,45 +1,5 @@
--- `nearest a b` is the whole number nearest to a / b, halves up. Everything above knows it by the laws below: it lies within
--- half of the quotient, it never falls as a grows, and it is exact on a multiple. Only `nearest-of-rest` says where a half
--- goes. Assumes nothing.
-use Prim.Native.Nat.{ℕ, _+_, _*_, _/_, _≤_, _<_}
-use mathlib.Core.Path.{_≡_, _∙_, subst}
-use native.Mathlib.Nat.{le-trans, lt-mul-div-succ, le-div-iff-mul-le, div-mul-le-self, div-eq-of-lt-le, le-of-eq}
-use native.Mathlib.Omega.{arith}
-use lib.Dec.{leb}
-use Rattle.laws.specs.Order.{by-order, pick, pick-le, pick-gt}
+-- `nearest a b` is the whole number nearest to a / b, halves up. Assumes nothing.
+use Prim.Native.Nat.{ℕ, _+_, _*_, _/_}
 
 unfoldable pub nearest : ℕ → ℕ → ℕ
 nearest a b = (2 * a + b) / (2 * b)
-
--- half of the divisor at most above the quotient ..
-pub nearest-above : (a b : ℕ) → 2 * (nearest a b * b) ≤ 2 * a + b
-unfolding nearest
-nearest-above a b = omega (arith, div-mul-le-self (2 * a + b) (2 * b))
-
--- .. and at most below it
-pub nearest-below : (a b : ℕ) → 0 < b → 2 * a ≤ 2 * (nearest a b * b) + b
-unfolding nearest
-nearest-below a b h = omega (arith, lt-mul-div-succ (2 * a + b) {b = 2 * b} (omega arith))
-
-pub nearest-mono : (a a′ b : ℕ) → 0 < b → a ≤ a′ → nearest a b ≤ nearest a′ b
-unfolding nearest
-nearest-mono a a′ b h l =
-    le-div-iff-mul-le {k = 2 * b} {x = (2 * a + b) / (2 * b)} (omega arith) .1
-    (le-trans (div-mul-le-self (2 * a + b) (2 * b)) (omega arith))
-
--- where a half goes: with a = q * b + r, up as soon as r is half of b
-pub nearest-of-rest : (q r b : ℕ) → r < b → nearest (q * b + r) b ≡ pick (leb b (r + r)) (q + 1) q
-unfolding nearest
-nearest-of-rest q r b h =
-    by-order b (r + r)
-    (λ l. rw (pick-le (q + 1) q l) (div-eq-of-lt-le (2 * b) (omega arith) (omega arith)))
-    (λ l. rw (pick-gt (q + 1) q l) (div-eq-of-lt-le (2 * b) (omega arith) (omega arith)))
-
-pub nearest-of-multiple : (q b : ℕ) → 0 < b → nearest (q * b) b ≡ q
-nearest-of-multiple q b h =
-    subst (λ (a : ℕ). nearest a b ≡ q) {x = q * b + 0} {y = q * b} (omega arith)
-    (nearest-of-rest q 0 b h ∙ pick-gt (q + 1) q h)
-
--- below a multiple the nearest is at most that
-pub nearest-at-most : (a q b : ℕ) → 0 < b → a ≤ q * b → nearest a b ≤ q
-nearest-at-most a q b h l = le-trans (nearest-mono a (q * b) b h l) (le-of-eq (nearest-of-multiple q b h))

@@ -5,7 +5,7 @@ use mathlib.Core.List.{List, [], _∷_}
 use lib.Dec.{leb}
 use Rattle.measure.specs.Quantity.{dipHeight, dipUnits, volume}
 use Rattle.refusal.specs.declared.Verdict.{Verdict}
-use Rattle.refusal.specs.declared.Verdict.the-variants.{Sound, Refused}
+use Rattle.refusal.specs.declared.Verdict.the-variants.{Passed, Refused}
 use Rattle.refusal.specs.Test.{Test, test, verdict}
 use Rattle.schedule.specs.Rows.{rowCount}
 use Rattle.lookup.specs.declared.litres.LitresAnswer.{LitresAnswer}
@@ -22,7 +22,7 @@ abbrev pub litresTests : (dh step : ℕ) (table : List ℕ) (h : ℕ) → List T
 litresTests dh step table h = test 11 0 (soundTable dh step table) ∷ test 12 0 (leb h dh) ∷ []
 
 abbrev pub litresBy : Verdict → ℕ → LitresAnswer
-litresBy Sound v = litresAnswers.Litres (volume v)
+litresBy Passed v = litresAnswers.Litres (volume v)
 litresBy (Refused r) v = litresAnswers.Refused r
 
 unfoldable pub litresAnswer : (dh step : ℕ) (table : List ℕ) (h : ℕ) → LitresAnswer
@@ -34,7 +34,7 @@ abbrev pub heightTests : (dh step : ℕ) (table : List ℕ) (w : ℕ) → List T
 heightTests dh step table w = test 11 0 (soundTable dh step table) ∷ test 13 0 (leb w (row table (rowCount dh step - 1))) ∷ []
 
 abbrev pub heightBy : Verdict → ℕ → HeightAnswer
-heightBy Sound h = heightAnswers.Height (dipHeight h)
+heightBy Passed h = heightAnswers.Height (dipHeight h)
 heightBy (Refused r) h = heightAnswers.Refused r
 
 unfoldable pub heightAnswer : (dh step : ℕ) (table : List ℕ) (w : ℕ) → HeightAnswer

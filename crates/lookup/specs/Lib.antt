@@ -1,6 +1,11 @@
--- Document 01, 'Lookups': what a sound table is, the litres at a height, the lowest height for a volume, and the answers.
+-- Document 01, 'Lookups': what a sound table is (Table), the value on the line between two rows (Line), the litres at a height
+-- (Litres), the lowest height for a volume (Height), and the answers (Answer). The other files are laws.
 pub mod Table
+pub mod TableLaws
 pub mod Line
+pub mod LineLaws
 pub mod Litres
+pub mod LitresLaws
 pub mod Height
+pub mod HeightLaws
 pub mod Answer

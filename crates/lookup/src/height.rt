@@ -1,11 +1,12 @@
 // The lowest height for a volume, by halving the heights that are left.
 ghost use mathlib.Core.Path.{_≡_};
 ghost use Rattle.measure.specs.Quantity.{volumeUnits};
-ghost use Rattle.lookup.specs.Table.{Sound};
-ghost use Rattle.lookup.specs.Height.{heightFor, Among};
+ghost use Rattle.lookup.specs.TableLaws.{SoundTable};
+ghost use Rattle.lookup.specs.Height.{heightFor};
+ghost use Rattle.lookup.specs.HeightLaws.{Among};
 ghost use Rattle.lookup.specs.Answer.{heightAnswer, Reached};
 use crate::litres::litres_inside;
-use crate::table::is_sound;
+use crate::table::is_sound_table;
 use measure::dip_height::DipHeight;
 use measure::volume::Volume;
 use refusal::Refusal;
@@ -18,7 +19,7 @@ pub enum HeightAnswer {
 // The lowest height is one of low to high. Look at the middle, rounded down: it is above the middle if the litres there are too
 // few, else the middle or below.
 fn lowest(dh: u32, step: u32, table: &[u32], w: u32, low: u32, high: u32) -> u32
-    requires { ⌜ Sound dh step (now table) × Among dh step (now table) w low high ⌝ }
+    requires { ⌜ SoundTable dh step (now table) × Among dh step (now table) w low high ⌝ }
     ensures { λ r. ⌜ r ≡ heightFor dh step (now (table .entry)) w ⌝ }
 {
     if low == high {
@@ -36,7 +37,7 @@ pub fn height_for(dh: u32, step: u32, table: &[u32], volume: Volume) -> HeightAn
     ensures { λ r. ⌜ r ≡ heightAnswer dh step (now (table .entry)) (volumeUnits volume) ⌝ }
     ensures { λ r. ⌜ Reached dh step (now (table .entry)) (volumeUnits volume) r ⌝ }
 {
-    if !is_sound(dh, step, table) {
+    if !is_sound_table(dh, step, table) {
         return HeightAnswer::Refused(Refusal {
             number: 11,
             place: 0,

@@ -2,11 +2,11 @@
 ghost use mathlib.Core.Path.{_≡_};
 ghost use Prim.Native.Nat.{_≤_};
 ghost use Rattle.measure.specs.Quantity.{dipUnits};
-ghost use Rattle.lookup.specs.Table.{Sound};
+ghost use Rattle.lookup.specs.TableLaws.{SoundTable};
 ghost use Rattle.lookup.specs.Litres.{litres};
 ghost use Rattle.lookup.specs.Answer.{litresAnswer};
 use crate::line::on_line;
-use crate::table::is_sound;
+use crate::table::is_sound_table;
 use measure::dip_height::DipHeight;
 use measure::volume::Volume;
 use refusal::Refusal;
@@ -18,7 +18,7 @@ pub enum LitresAnswer {
 
 // On a sound table, at a height within the tank.
 pub(crate) fn litres_inside(dh: u32, step: u32, table: &[u32], h: u32) -> u32
-    requires { ⌜ Sound dh step (now table) × (h ≤ dh) ⌝ }
+    requires { ⌜ SoundTable dh step (now table) × (h ≤ dh) ⌝ }
     ensures { λ r. ⌜ r ≡ litres dh step (now (table .entry)) h ⌝ }
 {
     if h == dh {
@@ -33,7 +33,7 @@ pub(crate) fn litres_inside(dh: u32, step: u32, table: &[u32], h: u32) -> u32
 pub fn litres_at(dh: u32, step: u32, table: &[u32], height: DipHeight) -> LitresAnswer
     ensures { λ r. ⌜ r ≡ litresAnswer dh step (now (table .entry)) (dipUnits height) ⌝ }
 {
-    if !is_sound(dh, step, table) {
+    if !is_sound_table(dh, step, table) {
         return LitresAnswer::Refused(Refusal {
             number: 11,
             place: 0,

@@ -7,9 +7,9 @@ use measure::diameter::Diameter;
 fn never_falls(table: &[u32]) -> bool
     ensures { λ r. ⌜ r ≡ neverFalls (now (table .entry)) ⌝ }
 {
-    let mut i: usize = 0;
-    while i + 1 < table.len() {
-        if table[i + 1] < table[i] {
+    let mut i: usize = 1;
+    while i < table.len() {
+        if table[i] < table[i - 1] {
             return false;
         }
         i += 1;
@@ -17,7 +17,7 @@ fn never_falls(table: &[u32]) -> bool
     true
 }
 
-pub fn is_sound(dh: u32, step: u32, table: &[u32]) -> bool
+pub fn is_sound_table(dh: u32, step: u32, table: &[u32]) -> bool
     ensures { λ r. ⌜ r ≡ soundTable dh step (now (table .entry)) ⌝ }
 {
     if dh < Diameter::SMALLEST {

@@ -1,4 +1,7 @@
--- The quantities as plain numbers, the limits of a diameter, and the corrected height.
+-- The quantities as plain numbers (Quantity), the limits of a diameter (Diameter), and the corrected height (Correction) with its
+-- laws.
 pub mod Quantity
 pub mod Diameter
 pub mod Correction
+pub mod CorrectionLaws
+pub mod Pi

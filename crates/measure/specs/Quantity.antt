@@ -1,5 +1,5 @@
 -- Each quantity and the number of units that it holds: u for heights and diameters, v for a volume. Assumes nothing.
-use Prim.Native.Nat.{ℕ}
+use Prim.Native.Nat.{ℕ, _^_}
 use Rattle.measure.specs.declared.dip_height.DipHeight.{DipHeight}
 use Rattle.measure.specs.declared.shell_height.ShellHeight.{ShellHeight}
 use Rattle.measure.specs.declared.volume.Volume.{Volume}
@@ -28,3 +28,7 @@ diameter n = record { 0 = n }
 
 abbrev pub diameterUnits : Diameter → ℕ
 diameterUnits d = d .0
+
+-- one v in cubic u
+abbrev pub cubicPerV : ℕ
+cubicPerV = 10 ^ 10

@@ -3,5 +3,6 @@
 // shell height.
 pub mod diameter;
 pub mod dip_height;
+pub mod pi;
 pub mod shell_height;
 pub mod volume;

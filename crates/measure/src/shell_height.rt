@@ -24,7 +24,7 @@ pub fn half_difference(a: u32, b: u32) -> i64
 }
 
 // x held within 0 to upper.
-fn held(x: i64, upper: u32) -> u32
+fn held_within(x: i64, upper: u32) -> u32
     ensures { λ r. ⌜ r ≡ heldWithin x upper ⌝ }
 {
     if x < 0 {
@@ -37,7 +37,7 @@ fn held(x: i64, upper: u32) -> u32
 fn corrected_units(d: u32, dh: u32, h: u32) -> u32
     ensures { λ r. ⌜ r ≡ correctedHeight d dh h ⌝ }
 {
-    held(h as i64 + half_difference(d, dh), d)
+    held_within(h as i64 + half_difference(d, dh), d)
 }
 
 impl ShellHeight {

@@ -4,6 +4,9 @@ ghost use Rattle.measure.specs.Quantity.{volume, volumeUnits};
 
 pub struct Volume(u32);
 
+// One v in cubic u.
+pub const CUBIC_PER_V: u64 = 10_000_000_000;
+
 impl Volume {
     pub fn of(units: u32) -> Volume
         ensures { λ r. ⌜ r ≡ volume units ⌝ }

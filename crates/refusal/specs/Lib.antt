@@ -1,2 +1,4 @@
 -- Ordered tests, and the first that fails.
 pub mod Test
+pub mod TestLaws
+pub mod NumberLaws

@@ -2,7 +2,7 @@
 // said where the tests stand.
 ghost use mathlib.Core.Path.{_≡_};
 ghost use mathlib.Core.List.{[], _∷_};
-ghost use Rattle.refusal.specs.Test.{test, verdict, after};
+ghost use Rattle.refusal.specs.Test.{test, verdict, firstRefusal};
 
 pub struct Refusal {
     pub number: u32,
@@ -10,7 +10,7 @@ pub struct Refusal {
 }
 
 pub enum Verdict {
-    Sound,
+    Passed,
     Refused(Refusal),
 }
 
@@ -19,18 +19,25 @@ pub fn one_test(number: u32, place: u32, passes: bool) -> Verdict
     ensures { λ r. ⌜ r ≡ verdict (test number place passes ∷ []) ⌝ }
 {
     if passes {
-        Verdict::Sound
+        Verdict::Passed
     } else {
         Verdict::Refused(Refusal { number, place })
     }
 }
 
 // The first verdict where that refuses, else the second.
-pub fn then(first: Verdict, second: Verdict) -> Verdict
-    ensures { λ r. ⌜ r ≡ after first second ⌝ }
+pub fn first_refusal(first: Verdict, second: Verdict) -> Verdict
+    ensures { λ r. ⌜ r ≡ firstRefusal first second ⌝ }
 {
     match first {
-        Verdict::Sound => second,
+        Verdict::Passed => second,
         Verdict::Refused(r) => Verdict::Refused(r),
     }
+}
+
+// The verdict so far, and then one test more.
+pub fn next_test(so_far: Verdict, number: u32, place: u32, passes: bool) -> Verdict
+    ensures { λ r. ⌜ r ≡ firstRefusal «so_far» (verdict (test number place passes ∷ [])) ⌝ }
+{
+    first_refusal(so_far, one_test(number, place, passes))
 }

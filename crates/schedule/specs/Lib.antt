@@ -1,2 +1,3 @@
--- The rows of a table.
+-- The rows of a table (Rows), and their laws.
 pub mod Rows
+pub mod RowsLaws

@@ -2,18 +2,25 @@
 ghost use mathlib.Core.Path.{_≡_};
 ghost use Prim.Native.Nat.{_<_};
 ghost use Rattle.measure.specs.Quantity.{dipHeight};
-ghost use Rattle.schedule.specs.Rows.{rowCount, rowHeight};
+ghost use Rattle.schedule.specs.Rows.{smallestStep, largestStep, mostRows, rowCount, rowHeight};
 use measure::dip_height::DipHeight;
 
-// The limits of a step, in u: those of the definition.
+// The limits of a step, in u.
 pub const SMALLEST_STEP: u32 = 100;
 
 pub const LARGEST_STEP: u32 = 10_000;
 
-// How many rows a table has: one at each multiple of the step up to DH, and one more at DH where that is none.
+// The most rows that the limits allow.
+pub const MOST_ROWS: usize = 5_001;
+
+// How many rows a table has: one at each multiple of the step up to DH, and one more at DH where that is none. The limits above are
+// those of the definition.
 pub fn row_count(dh: u32, step: u32) -> usize
     requires { ⌜ 0 < step ⌝ }
     ensures { λ r. ⌜ r ≡ rowCount dh step ⌝ }
+    ensures { λ r. do ⌜ (← ⟦SMALLEST_STEP⟧ .entry) ≡ smallestStep ⌝ }
+    ensures { λ r. do ⌜ (← ⟦LARGEST_STEP⟧ .entry) ≡ largestStep ⌝ }
+    ensures { λ r. do ⌜ (← ⟦MOST_ROWS⟧ .entry) ≡ mostRows ⌝ }
 {
     let whole = (dh / step) as usize + 1;
     if dh % step == 0 { whole } else { whole + 1 }

@@ -1,1 +1,1 @@
-// No code: condition 3 is a statement about the definitions of volume, proved in specs/.
+// No code: slabs are what a table's volumes are compared with, and stand in specs/.

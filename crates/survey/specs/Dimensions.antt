@@ -1,27 +1,82 @@
--- Outer diameter, wall, D1 and D2 (document 01, 'Dimensions'; document 000, 20.1.1 and 20.2). A wall thicker than the diameter
--- leaves 0, which is below every limit. Assumes nothing.
-use Prim.Native.Nat.{ℕ, _+_, _*_, _-_}
+-- Outer diameter, wall, D1 and D2 (document 01, 'Dimensions'; document 000, 20.1.1 and 20.2), from the sums over the courses. A wall
+-- thicker than the diameter leaves 0, which is below every limit. Assumes nothing.
+use Prim.Native.Nat.{ℕ, zero, suc, _+_, _*_, _-_}
+use mathlib.Core.Bool.{Bool, _&&_}
 use mathlib.Core.List.{List}
+use lib.Dec.{leb}
 use Rattle.laws.specs.Nearest.{nearest}
-use Rattle.laws.specs.Sum.{sum}
-use Rattle.survey.specs.Layout.{left, right, courseCount, courseFirst, courseSecond, courseLength, courseThickness}
+use Rattle.laws.specs.Order.{pick}
+use Rattle.measure.specs.Diameter.{smallest, largest}
+use Rattle.measure.specs.Pi.{piOver, piUnder}
+use Rattle.measure.specs.Quantity.{diameter}
+use Rattle.refusal.specs.Test.{within}
+use Rattle.survey.specs.declared.dimensions.Sums.{Sums}
+use Rattle.survey.specs.declared.dimensions.Dimensions.{Dimensions}
+use Rattle.survey.specs.declared.dimensions.Dimensions.the-variants.{Found, Unfit}
+use Rattle.survey.specs.declared.format.Format.{Format}
+use Rattle.survey.specs.declared.section.Section.{Section}
+use Rattle.survey.specs.Word.{word}
+use Rattle.survey.specs.Layout.{leftAt, rightAt, firstIn, secondIn, lengthIn, thicknessIn}
+use Rattle.survey.specs.Limits.{farthest}
+use Rattle.survey.specs.Section.{courses, recordAt}
 
--- the sum of the courses' lengths
-unfoldable pub courseLengths : List ℕ → ℕ
-courseLengths s = sum (courseCount s) (courseLength s)
+-- what the course at a byte adds to the sums: (first + second circumference) · length, its length, its thickness
+unfoldable pub sumOf : List ℕ → ℕ → Sums
+sumOf s at =
+    record {
+      readings = (word s (at + firstIn) + word s (at + secondIn)) * word s (at + lengthIn);
+      lengths = word s (at + lengthIn);
+      thicknesses = word s (at + thicknessIn);
+      count = 1;
+    }
 
--- W: the sum over courses of (first + second circumference) · length
-unfoldable pub weightedReadings : List ℕ → ℕ
-weightedReadings s = sum (courseCount s) (λ i. (courseFirst s i + courseSecond s i) * courseLength s i)
+abbrev pub added : Sums → Sums → Sums
+added t u =
+    record {
+      readings = t .readings + u .readings;
+      lengths = t .lengths + u .lengths;
+      thicknesses = t .thicknesses + u .thicknesses;
+      count = t .count + u .count;
+    }
 
-unfoldable pub outerDiameter : List ℕ → ℕ
-outerDiameter s = nearest (113 * weightedReadings s) (710 * courseLengths s)
+-- over the first n courses of a section
+unfoldable pub sumsOver : List ℕ → Section → ℕ → Sums
+sumsOver s x zero = record { readings = 0; lengths = 0; thicknesses = 0; count = 0 }
+sumsOver s x (suc n) = added (sumsOver s x n) (sumOf s (recordAt x n))
 
-unfoldable pub wall : List ℕ → ℕ
-wall s = nearest (2 * sum (courseCount s) (courseThickness s)) (courseCount s)
+-- over all of a file's: W, the sum of the lengths, that of the thicknesses, and the course count
+abbrev pub sumsOf : Format → List ℕ → Sums
+sumsOf f s = sumsOver s (courses f s) (courses f s .count)
 
-unfoldable pub d1 : List ℕ → ℕ
-d1 s = outerDiameter s - wall s
+-- of readings in pairs, weighted by lengths: 113·W / (710·ΣL), to the nearest
+unfoldable pub outerDiameter : (readings lengths : ℕ) → ℕ
+outerDiameter readings lengths = nearest (piUnder * readings) (2 * piOver * lengths)
 
-unfoldable pub d2 : List ℕ → ℕ
-d2 s = nearest (113 * (left s + right s)) 710 - wall s
+-- twice the mean thickness, to the nearest
+unfoldable pub wall : (thicknesses count : ℕ) → ℕ
+wall thicknesses count = nearest (2 * thicknesses) count
+
+abbrev wallOf : Sums → ℕ
+wallOf t = wall (t .thicknesses) (t .count)
+
+unfoldable pub shellDiameter : Sums → ℕ
+shellDiameter t = outerDiameter (t .readings) (t .lengths) - wallOf t
+
+-- of flange and head, from the circumferences at the shell's ends
+unfoldable pub headDiameter : Sums → (left right : ℕ) → ℕ
+headDiameter t left right = outerDiameter (left + right) 1 - wallOf t
+
+-- D1 and D2 of a file
+abbrev pub d1 : Format → List ℕ → ℕ
+d1 f s = shellDiameter (sumsOf f s)
+
+abbrev pub d2 : Format → List ℕ → ℕ
+d2 f s = headDiameter (sumsOf f s) (word s leftAt) (word s rightAt)
+
+-- a diameter within its limits and not far from DH
+unfoldable pub diameterFits : (d dh : ℕ) → Bool
+diameterFits d dh = (leb d (dh + farthest) && leb dh (d + farthest)) && within smallest d largest
+
+-- DH, D1 and D2 where both fit
+abbrev pub dimensions : (dh d1 d2 : ℕ) → Dimensions
+dimensions dh d1 d2 = pick (diameterFits d1 dh && diameterFits d2 dh) (Found (diameter dh) (diameter d1) (diameter d2)) Unfit

@@ -1,93 +1,86 @@
--- Where each number of a survey file stands (document 01, 'The survey file'). Later requests lengthen header and records at
--- their ends: the sizes and places stand here and nowhere else. Assumes nothing.
-use Prim.Native.Nat.{ℕ, _+_, _*_}
-use mathlib.Core.List.{List}
-use lib.IntN.{ℤ}
-use Rattle.survey.specs.Word.{word, signedWord}
+-- Where each number of a survey file stands (document 01, 'The survey file'): the bytes of the header's words, and those of a record's
+-- words counted from its start. They are the same in every format; a format says how long header and records are, and later ones are
+-- longer at their ends. Assumes nothing.
+use Prim.Native.Nat.{ℕ}
+use Rattle.survey.specs.declared.format.Format.{Format}
 
--- sizes in bytes
-
-abbrev pub headerSize : ℕ
-headerSize = 48
-
-abbrev pub courseSize : ℕ
-courseSize = 16
-
-abbrev pub deadwoodSize : ℕ
-deadwoodSize = 12
-
--- the header
+-- in the header
 
 -- head kind
-abbrev pub kind : List ℕ → ℕ
-kind s = word s 0
+abbrev pub kindAt : ℕ
+kindAt = 0
 
 -- DH, inner vertical diameter at the dip point
-abbrev pub dh : List ℕ → ℕ
-dh s = word s 4
+abbrev pub dhAt : ℕ
+dhAt = 4
 
 -- L1, shell length
-abbrev pub l1 : List ℕ → ℕ
-l1 s = word s 8
+abbrev pub l1At : ℕ
+l1At = 8
 
 -- outer circumference at the left shell end
-abbrev pub left : List ℕ → ℕ
-left s = word s 12
+abbrev pub leftAt : ℕ
+leftAt = 12
 
 -- and at the right one
-abbrev pub right : List ℕ → ℕ
-right s = word s 16
+abbrev pub rightAt : ℕ
+rightAt = 16
 
 -- L2, flange length of one head
-abbrev pub l2 : List ℕ → ℕ
-l2 s = word s 20
+abbrev pub l2At : ℕ
+l2At = 20
 
 -- L3, inner length of one head
-abbrev pub l3 : List ℕ → ℕ
-l3 s = word s 24
+abbrev pub l3At : ℕ
+l3At = 24
 
-abbrev pub step : List ℕ → ℕ
-step s = word s 28
+abbrev pub stepAt : ℕ
+stepAt = 28
 
-abbrev pub courseCount : List ℕ → ℕ
-courseCount s = word s 32
+-- the count of the courses, and behind it their byte offset
+abbrev pub coursesAt : ℕ
+coursesAt = 32
 
-abbrev pub courseOffset : List ℕ → ℕ
-courseOffset s = word s 36
+-- likewise of the deadwood
+abbrev pub deadwoodAt : ℕ
+deadwoodAt = 40
 
-abbrev pub deadwoodCount : List ℕ → ℕ
-deadwoodCount s = word s 40
+-- in a course
 
-abbrev pub deadwoodOffset : List ℕ → ℕ
-deadwoodOffset s = word s 44
+abbrev pub firstIn : ℕ
+firstIn = 0
 
--- course i: two circumferences, length, thickness
+abbrev pub secondIn : ℕ
+secondIn = 4
 
-abbrev pub courseAt : List ℕ → ℕ → ℕ
-courseAt s i = courseOffset s + courseSize * i
+abbrev pub lengthIn : ℕ
+lengthIn = 8
 
-abbrev pub courseFirst : List ℕ → ℕ → ℕ
-courseFirst s i = word s (courseAt s i)
+abbrev pub thicknessIn : ℕ
+thicknessIn = 12
 
-abbrev pub courseSecond : List ℕ → ℕ → ℕ
-courseSecond s i = word s (courseAt s i + 4)
+-- in a deadwood item
 
-abbrev pub courseLength : List ℕ → ℕ → ℕ
-courseLength s i = word s (courseAt s i + 8)
+abbrev pub lowIn : ℕ
+lowIn = 0
 
-abbrev pub courseThickness : List ℕ → ℕ → ℕ
-courseThickness s i = word s (courseAt s i + 12)
+abbrev pub highIn : ℕ
+highIn = 4
 
--- deadwood item i: low height, high height, signed volume
+abbrev pub volumeIn : ℕ
+volumeIn = 8
 
-abbrev pub deadwoodAt : List ℕ → ℕ → ℕ
-deadwoodAt s i = deadwoodOffset s + deadwoodSize * i
+-- behind the last word of document 01 in the header, in a course and in a deadwood item
 
-abbrev pub deadwoodLow : List ℕ → ℕ → ℕ
-deadwoodLow s i = word s (deadwoodAt s i)
+abbrev pub headerEnd : ℕ
+headerEnd = 48
 
-abbrev pub deadwoodHigh : List ℕ → ℕ → ℕ
-deadwoodHigh s i = word s (deadwoodAt s i + 4)
+abbrev pub courseEnd : ℕ
+courseEnd = 16
 
-abbrev pub deadwoodVolume : List ℕ → ℕ → ℤ
-deadwoodVolume s i = signedWord s (deadwoodAt s i + 8)
+abbrev pub itemEnd : ℕ
+itemEnd = 12
+
+-- the format of document 01
+abbrev pub today : Format
+today = record { header = headerEnd; course = courseEnd; deadwood = itemEnd }

@@ -1,10 +1,15 @@
--- The survey file as document 01 gives it: words, layout, dimensions, the ordered tests, and what decoding gives; then what the
--- tests promise.
+-- The survey file as document 01 gives it: words, layout, sections, limits, dimensions, the ordered tests and the survey that a file
+-- holds; then what the tests promise.
 pub mod Word
 pub mod Layout
+pub mod Limits
+pub mod Section
+pub mod Item
 pub mod Dimensions
 pub mod Tests
-pub mod Decoded
-pub mod Sections
-pub mod Courses
-pub mod Accepted
+pub mod Survey
+pub mod SectionLaws
+pub mod CourseLaws
+pub mod SurveyLaws
+pub mod NumberedLaws
+pub mod ExampleLaws

@@ -1,85 +1,108 @@
 -- Refusals 1 to 7 as one ordered list of tests, each with its number and its place: a later request inserts a line.
 -- Assumes nothing.
-use Prim.Native.Nat.{ℕ, _+_, _*_}
-use mathlib.Core.Bool.{Bool, _&&_, _||_}
+use Prim.Native.Nat.{ℕ, _+_}
+use mathlib.Core.Bool.{_&&_}
 use mathlib.Core.List.{List, [], _∷_, _++_}
-use lib.Dec.{leb, ltb, eqb}
-use lib.IntN.{natAbs}
+use lib.Dec.{eqb}
 use lib.ListN.{length}
-use Rattle.laws.specs.Order.{pick}
 use Rattle.measure.specs.Diameter.{smallest, largest}
+use Rattle.schedule.specs.Rows.{smallestStep, largestStep}
 use Rattle.refusal.specs.Test.{Test, test, items, within}
+use Rattle.heads.specs.Kind.{kindKnown, kindOf}
+use Rattle.heads.specs.Length.{lengthFits}
+use Rattle.tank.specs.Limits.{longestShell, longestFlange}
+use Rattle.deadwood.specs.Item.{heightsFit, volumeFits}
+use Rattle.survey.specs.declared.format.Format.{Format}
+use Rattle.survey.specs.declared.section.Section.{Section}
+use Rattle.survey.specs.declared.section.Records.{Records}
+use Rattle.survey.specs.declared.section.Records.the-variants.{Courses, Deadwood}
 use Rattle.survey.specs.Word.{word}
-use Rattle.survey.specs.Layout.{headerSize, courseSize, deadwoodSize, kind, dh, l1, courseCount, courseOffset, courseAt, deadwoodCount, deadwoodOffset, deadwoodAt, deadwoodLow, deadwoodHigh, deadwoodVolume}
-use Rattle.survey.specs.Dimensions.{courseLengths, d1, d2}
+use Rattle.survey.specs.Layout.{kindAt, dhAt, l1At, leftAt, rightAt, l2At, l3At, stepAt, firstIn, secondIn, lengthIn, thicknessIn, highIn, volumeIn}
+use Rattle.survey.specs.Limits.{largestFile, shortestCircumference, longestCircumference, shortestShell, shortestCourse, thinnest, thickest}
+use Rattle.survey.specs.Section.{sections, recordAt, countFits, placed, apart}
+use Rattle.survey.specs.Item.{itemFrom}
+use Rattle.survey.specs.Dimensions.{sumsOf, d1, d2, diameterFits}
 
--- a section of so many bytes at an offset: an empty one's offset is not looked at, another starts behind the header and ends
--- inside the file
-unfoldable pub placed : (fileSize offset size : ℕ) → Bool
-placed fileSize offset size = eqb size 0 || (leb headerSize offset && leb (offset + size) fileSize)
+-- refusal 2: every section's count
+abbrev pub countTests : List Section → List Test
+countTests [] = []
+countTests (x ∷ xs) = test 2 0 (countFits (x .records) (x .count)) ∷ countTests xs
 
--- two sections do not overlap
-unfoldable pub apart : (offset size offset′ size′ : ℕ) → Bool
-apart offset size offset′ size′ = eqb size 0 || (eqb size′ 0 || (leb (offset + size) offset′ || leb (offset′ + size′) offset))
+-- refusal 3: every section well placed, and any two of them apart
 
-unfoldable pub sectionsPlaced : List ℕ → Bool
-sectionsPlaced s =
-    placed (length s) (courseOffset s) (courseSize * courseCount s)
-    && (placed (length s) (deadwoodOffset s) (deadwoodSize * deadwoodCount s)
-    && apart (courseOffset s) (courseSize * courseCount s) (deadwoodOffset s) (deadwoodSize * deadwoodCount s))
+abbrev pub apartTests : Section → List Section → List Test
+apartTests x [] = []
+apartTests x (y ∷ ys) = test 3 0 (apart x y) ∷ apartTests x ys
 
--- the number at a byte is within its limits
+abbrev pub placeTests : (header fileSize : ℕ) → List Section → List Test
+placeTests header fileSize [] = []
+placeTests header fileSize (x ∷ xs) = test 3 0 (placed header fileSize x) ∷ apartTests x xs ++ placeTests header fileSize xs
+
+-- refusals 2 to 4, of a file that has its header
+unfoldable pub layoutTests : Format → List ℕ → List Test
+layoutTests f s =
+    countTests (sections f s)
+    ++ placeTests (f .header) (length s) (sections f s)
+    ++ (test 4 0 (kindKnown (word s kindAt)) ∷ [])
+
+-- refusal 5: the number at a byte is within its limits
 abbrev pub limit : List ℕ → (at low high : ℕ) → Test
 limit s at low high = test 5 at (within low (word s at) high)
 
--- a flat head has inner length 0, a half-ellipsoid one a length of its own
-abbrev pub headTest : List ℕ → Test
-headTest s = limit s 24 (pick (eqb (kind s) 0) 0 1) (pick (eqb (kind s) 0) 0 260000)
-
 unfoldable pub headerTests : List ℕ → List Test
 headerTests s =
-    limit s 4 smallest largest
-    ∷ limit s 8 100000 3000000
-    ∷ limit s 12 150000 1600000
-    ∷ limit s 16 150000 1600000
-    ∷ limit s 20 0 20000
-    ∷ headTest s
-    ∷ limit s 28 100 10000
+    limit s dhAt smallest largest
+    ∷ limit s l1At shortestShell longestShell
+    ∷ limit s leftAt shortestCircumference longestCircumference
+    ∷ limit s rightAt shortestCircumference longestCircumference
+    ∷ limit s l2At 0 longestFlange
+    ∷ test 5 l3At (lengthFits (kindOf (word s kindAt)) (word s l3At))
+    ∷ limit s stepAt smallestStep largestStep
     ∷ []
 
+-- of the course at a byte
 unfoldable pub courseTests : List ℕ → ℕ → List Test
-courseTests s i =
-    limit s (courseAt s i) 150000 1600000
-    ∷ limit s (courseAt s i + 4) 150000 1600000
-    ∷ limit s (courseAt s i + 8) 1 3000000
-    ∷ limit s (courseAt s i + 12) 100 5000
+courseTests s at =
+    limit s (at + firstIn) shortestCircumference longestCircumference
+    ∷ limit s (at + secondIn) shortestCircumference longestCircumference
+    ∷ limit s (at + lengthIn) shortestCourse longestShell
+    ∷ limit s (at + thicknessIn) thinnest thickest
     ∷ []
 
--- low < high ≤ DH; if not, the high number is the bad one
-unfoldable pub deadwoodTests : List ℕ → ℕ → List Test
-deadwoodTests s i =
-    test 5 (deadwoodAt s i + 4) (ltb (deadwoodLow s i) (deadwoodHigh s i) && leb (deadwoodHigh s i) (dh s))
-    ∷ test 5 (deadwoodAt s i + 8) (leb (natAbs (deadwoodVolume s i)) 10000000)
+-- of the deadwood item at a byte: where low < high ≤ DH fails, the high number is the bad one
+unfoldable pub itemTests : List ℕ → ℕ → List Test
+itemTests s at =
+    test 5 (at + highIn) (heightsFit (itemFrom s at) (word s dhAt))
+    ∷ test 5 (at + volumeIn) (volumeFits (itemFrom s at))
     ∷ []
 
--- a diameter within its limits and at most 10,000 from DH
-unfoldable pub diameterFits : (d dh : ℕ) → Bool
-diameterFits d dh = within smallest d largest && (leb d (dh + 10000) && leb dh (d + 10000))
+abbrev pub recordTests : Records → List ℕ → ℕ → List Test
+recordTests Courses s at = courseTests s at
+recordTests Deadwood s at = itemTests s at
 
--- refusal 5: the header's numbers, then the courses', then the deadwood's
-abbrev pub numberTests : List ℕ → List Test
-numberTests s =
-    headerTests s
-    ++ items (courseCount s) (courseTests s)
-    ++ items (deadwoodCount s) (deadwoodTests s)
+-- record by record, and section by section
+abbrev pub sectionTests : List ℕ → Section → List Test
+sectionTests s x = items (x .count) (λ i. recordTests (x .records) s (recordAt x i))
 
-unfoldable pub tests : List ℕ → List Test
-tests s =
-    test 1 0 (within headerSize (length s) 65536)
-    ∷ test 2 0 (within 1 (courseCount s) 40 && within 0 (deadwoodCount s) 64)
-    ∷ test 3 0 (sectionsPlaced s)
-    ∷ test 4 0 (leb (kind s) 1)
-    ∷ numberTests s
-    ++ (test 6 0 (eqb (courseLengths s) (l1 s)))
-    ∷ test 7 0 (diameterFits (d1 s) (dh s) && diameterFits (d2 s) (dh s))
+abbrev pub sectionsTests : List ℕ → List Section → List Test
+sectionsTests s [] = []
+sectionsTests s (x ∷ xs) = sectionTests s x ++ sectionsTests s xs
+
+-- refusal 5: the header's numbers, then the sections'
+abbrev pub numberTests : Format → List ℕ → List Test
+numberTests f s = headerTests s ++ sectionsTests s (sections f s)
+
+-- refusals 6 and 7
+unfoldable pub dimensionTests : Format → List ℕ → List Test
+dimensionTests f s =
+    test 6 0 (eqb (sumsOf f s .lengths) (word s l1At))
+    ∷ test 7 0 (diameterFits (d1 f s) (word s dhAt) && diameterFits (d2 f s) (word s dhAt))
     ∷ []
+
+-- all of them
+unfoldable pub fileTests : Format → List ℕ → List Test
+fileTests f s =
+    test 1 0 (within (f .header) (length s) largestFile)
+    ∷ layoutTests f s
+    ++ (numberTests f s
+    ++ dimensionTests f s)

@@ -1,39 +1,106 @@
-// D1 and D2, made of the outer diameters and the wall, and refusals 6 and 7.
+// The sums over the courses, and D1 and D2 made of them.
 ghost use mathlib.Core.Path.{_≡_};
-ghost use mathlib.Core.Bool.{_&&_};
-ghost use Prim.Native.Nat.{_-_, _^_, _<_};
-ghost use lib.Dec.{eqb};
-ghost use Rattle.survey.specs.Layout.{dh, l1};
-ghost use Rattle.survey.specs.Dimensions.{courseLengths, outerDiameter, wall, d1, d2};
-ghost use Rattle.survey.specs.Tests.{diameterFits};
-ghost use Rattle.survey.specs.Courses.{Courses};
-use crate::courses::totals;
-use crate::layout::COURSE_COUNT;
-use crate::layout::DH;
-use crate::layout::L1;
-use crate::layout::LEFT;
-use crate::layout::RIGHT;
-use crate::limits::is_within;
+ghost use Prim.Native.Nat.{_+_, _*_, _-_, _^_, _≤_, _<_};
+ghost use lib.ListN.{length};
+ghost use Rattle.laws.specs.Order.{pick};
+ghost use Rattle.measure.specs.Diameter.{smallest, largest};
+ghost use Rattle.measure.specs.Pi.{piUnder};
+ghost use Rattle.measure.specs.Quantity.{diameter};
+ghost use Rattle.tank.specs.Limits.{longestShell};
+ghost use Rattle.survey.specs.Limits.{mostCourses};
+ghost use Rattle.survey.specs.Dimensions.{sumOf, added, sumsOver, outerDiameter, wall, shellDiameter, headDiameter, diameterFits, dimensions};
+ghost use Rattle.survey.specs.Layout.{courseEnd};
+ghost use Rattle.survey.specs.CourseLaws.{CourseFits, Courses, SumsSmall};
+use crate::layout;
+use crate::limits::FARTHEST;
+use crate::section::Section;
+use crate::section::record_at;
 use crate::word::word;
 use arith::nearest::nearest_quotient;
 use measure::diameter::Diameter;
+use measure::diameter::Measured;
+use measure::pi::PI_OVER;
+use measure::pi::PI_UNDER;
 
-// From the circumferences of the courses, weighted by their lengths.
-fn outer_diameter(s: &[u8]) -> u64
-    requires { ⌜ Courses (now s) ⌝ }
-    ensures { λ r. ⌜ r ≡ outerDiameter (now (s .entry)) ⌝ }
+// What the dimensions are made of, summed over courses.
+pub struct Sums {
+    // (first + second circumference) · length
+    pub readings: u64,
+    pub lengths: u64,
+    pub thicknesses: u64,
+    pub count: u64,
+}
+
+// DH, D1 and D2; or that refusal 7 applies.
+pub enum Dimensions {
+    Found(Diameter, Diameter, Diameter),
+    Unfit,
+}
+
+// What the course at a byte adds.
+fn sum_of(s: &[u8], at: usize) -> Sums
+    requires { ⌜ (at + courseEnd ≤ length (now s)) × CourseFits (now s) at ⌝ }
+    ensures { λ r. ⌜ r ≡ sumOf (now (s .entry)) at ⌝ }
 {
-    let t = totals(s);
-    nearest_quotient(113 * t.readings, 710 * t.lengths)
+    let first = word(s, at + layout::FIRST_CIRCUMFERENCE) as u64;
+    let second = word(s, at + layout::SECOND_CIRCUMFERENCE) as u64;
+    let length = word(s, at + layout::COURSE_LENGTH) as u64;
+    let thickness = word(s, at + layout::THICKNESS) as u64;
+    Sums {
+        readings: (first + second) * length,
+        lengths: length,
+        thicknesses: thickness,
+        count: 1,
+    }
+}
+
+fn add(t: Sums, u: Sums) -> Sums
+    requires { ⌜ SumsSmall t × SumsSmall u ⌝ }
+    ensures { λ r. ⌜ r ≡ added t u ⌝ }
+{
+    Sums {
+        readings: t.readings + u.readings,
+        lengths: t.lengths + u.lengths,
+        thicknesses: t.thicknesses + u.thicknesses,
+        count: t.count + u.count,
+    }
+}
+
+// Over all courses of their section.
+pub fn sums_over(section: Section, s: &[u8]) -> Sums
+    requires { ⌜ Courses (now s) section ⌝ }
+    ensures { λ r. ⌜ r ≡ sumsOver (now (s .entry)) section (section .count) ⌝ }
+{
+    let x = section;
+    let count = x.count;
+    let mut t = Sums {
+        readings: 0,
+        lengths: 0,
+        thicknesses: 0,
+        count: 0,
+    };
+    let mut i: usize = 0;
+    while i < count {
+        t = add(t, sum_of(s, record_at(x, i)));
+        i += 1;
+    }
+    t
+}
+
+// Of circumferences, in pairs, weighted by lengths.
+fn outer_diameter(readings: u64, lengths: u64) -> u64
+    requires { ⌜ (piUnder * readings < 2 ^ 63) × (1 ≤ lengths) × (lengths ≤ mostCourses * longestShell) ⌝ }
+    ensures { λ r. ⌜ r ≡ outerDiameter readings lengths ⌝ }
+{
+    nearest_quotient(PI_UNDER * readings, 2 * PI_OVER * lengths)
 }
 
 // Twice the mean thickness.
-fn wall(s: &[u8]) -> u64
-    requires { ⌜ Courses (now s) ⌝ }
-    ensures { λ r. ⌜ r ≡ wall (now (s .entry)) ⌝ }
+fn wall(t: Sums) -> u64
+    requires { ⌜ SumsSmall t × (1 ≤ t .count) ⌝ }
+    ensures { λ r. ⌜ r ≡ wall (t .thicknesses) (t .count) ⌝ }
 {
-    let t = totals(s);
-    nearest_quotient(2 * t.thicknesses, word(s, COURSE_COUNT) as u64)
+    nearest_quotient(2 * t.thicknesses, t.count)
 }
 
 // A wall thicker than the diameter leaves 0.
@@ -43,46 +110,35 @@ fn inside(outer: u64, wall: u64) -> u64
     if wall <= outer { outer - wall } else { 0 }
 }
 
-// D1.
-pub fn shell_diameter(s: &[u8]) -> u64
-    requires { ⌜ Courses (now s) ⌝ }
-    ensures { λ r. ⌜ r ≡ d1 (now (s .entry)) ⌝ }
+// The diameter of so many u, where it is within its limits and not far from DH.
+fn fitting(d: u64, dh: u32) -> Measured
+    ensures { λ r. ⌜ r ≡ pick (diameterFits d dh) (Measured.Within (diameter d)) Measured.Outside ⌝ }
 {
-    inside(outer_diameter(s), wall(s))
+    if dh as u64 + FARTHEST < d {
+        return Measured::Outside;
+    }
+    if d + FARTHEST < dh as u64 {
+        return Measured::Outside;
+    }
+    Diameter::of(d)
 }
 
-// D2, of flange and head, from the circumferences at the shell's ends.
-pub fn head_diameter(s: &[u8]) -> u64
-    requires { ⌜ Courses (now s) ⌝ }
-    ensures { λ r. ⌜ r ≡ d2 (now (s .entry)) ⌝ }
+// D1 from the courses, and D2, of flange and head, from the circumferences at the shell's ends; DH is within its limits.
+pub fn diameters(t: Sums, left: u32, right: u32, dh: u32) -> Dimensions
+    requires { ⌜ SumsSmall t × (1 ≤ t .lengths) × (1 ≤ t .count) × (smallest ≤ dh) × (dh ≤ largest) ⌝ }
+    ensures { λ r. ⌜ r ≡ dimensions dh (shellDiameter t) (headDiameter t left right) ⌝ }
 {
-    let ends = word(s, LEFT) as u64 + word(s, RIGHT) as u64;
-    inside(nearest_quotient(113 * ends, 710), wall(s))
-}
-
-// Refusal 6.
-pub fn lengths_add_up(s: &[u8]) -> bool
-    requires { ⌜ Courses (now s) ⌝ }
-    ensures { λ r. ⌜ r ≡ eqb (courseLengths (now (s .entry))) (l1 (now (s .entry))) ⌝ }
-{
-    let t = totals(s);
-    t.lengths == word(s, L1) as u64
-}
-
-// Within the limits of a diameter, and near DH.
-fn fits(d: u64, dh: u64) -> bool
-    requires { ⌜ dh < 2 ^ 32 ⌝ }
-    ensures { λ r. ⌜ r ≡ diameterFits d dh ⌝ }
-{
-    is_within(Diameter::SMALLEST as u64, d, Diameter::LARGEST as u64)
-        && (d <= dh + 10_000 && dh <= d + 10_000)
-}
-
-// Refusal 7.
-pub fn diameters_fit(s: &[u8]) -> bool
-    requires { ⌜ Courses (now s) ⌝ }
-    ensures { λ r. ⌜ r ≡ diameterFits (d1 (now (s .entry))) (dh (now (s .entry))) && diameterFits (d2 (now (s .entry))) (dh (now (s .entry))) ⌝ }
-{
-    let dh = word(s, DH) as u64;
-    fits(shell_diameter(s), dh) && fits(head_diameter(s), dh)
+    let wall = wall(t);
+    let courses = outer_diameter(t.readings, t.lengths);
+    let ends = outer_diameter(left as u64 + right as u64, 1);
+    let Measured::Within(d1) = fitting(inside(courses, wall), dh) else {
+        return Dimensions::Unfit;
+    };
+    let Measured::Within(d2) = fitting(inside(ends, wall), dh) else {
+        return Dimensions::Unfit;
+    };
+    let Measured::Within(dip_point) = Diameter::of(dh as u64) else {
+        return Dimensions::Unfit;
+    };
+    Dimensions::Found(dip_point, d1, d2)
 }

@@ -1,10 +1,4 @@
-// Where each number of a survey file stands, in bytes. Later requests lengthen header and records at their ends: sizes and
-// places stand here and nowhere else in the code.
-pub const HEADER_SIZE: usize = 48;
-
-pub const COURSE_SIZE: usize = 16;
-
-pub const DEADWOOD_SIZE: usize = 12;
+// Where each number of a survey file stands: the bytes of the header's words, and those of a record's words counted from its start.
 
 // in the header
 pub const KIND: usize = 0;
@@ -23,22 +17,31 @@ pub const L3: usize = 24;
 
 pub const STEP: usize = 28;
 
-pub const COURSE_COUNT: usize = 32;
+// the count of the courses, and behind it their byte offset
+pub const COURSES: usize = 32;
 
-pub const COURSE_OFFSET: usize = 36;
+// likewise of the deadwood
+pub const DEADWOOD: usize = 40;
 
-pub const DEADWOOD_COUNT: usize = 40;
+// in a course
+pub const FIRST_CIRCUMFERENCE: usize = 0;
 
-pub const DEADWOOD_OFFSET: usize = 44;
+pub const SECOND_CIRCUMFERENCE: usize = 4;
 
-// in a course, behind its first circumference
-pub const SECOND: usize = 4;
-
-pub const LENGTH: usize = 8;
+pub const COURSE_LENGTH: usize = 8;
 
 pub const THICKNESS: usize = 12;
 
-// in a deadwood item, behind its low height
-pub const HIGH: usize = 4;
+// in a deadwood item
+pub const LOW_HEIGHT: usize = 0;
 
-pub const VOLUME: usize = 8;
+pub const HIGH_HEIGHT: usize = 4;
+
+pub const ITEM_VOLUME: usize = 8;
+
+// behind the last word of document 01 in the header, in a course and in a deadwood item
+pub const HEADER_END: usize = 48;
+
+pub const COURSE_END: usize = 16;
+
+pub const ITEM_END: usize = 12;

@@ -1,10 +1,10 @@
-// The survey file: its words, the tests that it must pass, the dimensions made of it, and the survey that a sound file holds.
-mod courses;
-mod deadwood;
+// The survey file: its words and sections, the tests that it must pass, the dimensions made of it, and the survey that it holds. Nobody
+// else sees a byte of it.
 pub mod decode;
 mod dimensions;
-pub mod layout;
+mod format;
+mod layout;
 mod limits;
-mod sections;
-mod tests;
-pub mod word;
+mod numbers;
+mod section;
+mod word;

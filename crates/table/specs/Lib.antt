@@ -1,12 +1,11 @@
--- From a sound survey to its table: deadwood shares, gross and net rows, the tests of the table, and the call's whole answer with
--- condition 3 in it.
-pub mod Share
+-- From a survey to its table: gross and net rows, the tests of the table, the call's whole answer, and condition 3 of what it writes;
+-- then the laws of these.
 pub mod Rows
-pub mod Filling
-pub mod Items
-pub mod Deadwood
 pub mod Tests
-pub mod Cell
 pub mod Answer
-pub mod Kept
-pub mod BelowZero
+pub mod Condition3
+pub mod RowLaws
+pub mod RowTestLaws
+pub mod AnswerLaws
+pub mod BelowZeroLaws
+pub mod Condition3Laws

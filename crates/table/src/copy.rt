@@ -7,7 +7,8 @@ ghost use lib.ListN.{length, drop};
 ghost use Rattle.laws.specs.Fill.{rowsOf};
 ghost use Rattle.refusal.specs.Test.{test, verdict};
 ghost use Rattle.table.specs.Tests.{rowTests};
-ghost use Rattle.table.specs.Cell.{netOf, cellIn, leftBy};
+ghost use Rattle.table.specs.Answer.{leftBy};
+ghost use Rattle.table.specs.RowLaws.{netOf, cellIn};
 use crate::tests::rows_tested;
 use arith::signed;
 use refusal::Refusal;
@@ -40,9 +41,9 @@ pub fn test_and_copy(net: &[i64], rows: usize, table: &mut [u32]) -> Verdict
     let v = rows_tested(net, rows);
     match v {
         Verdict::Refused(r) => Verdict::Refused(r),
-        Verdict::Sound => {
+        Verdict::Passed => {
             copy_rows(net, rows, table);
-            Verdict::Sound
+            Verdict::Passed
         }
     }
 }

@@ -5,10 +5,10 @@ ghost use lib.ListN.{length};
 ghost use lib.Signed.{nonNeg};
 ghost use Rattle.refusal.specs.Test.{verdict};
 ghost use Rattle.table.specs.Tests.{keepsUp, rowTests};
-ghost use Rattle.table.specs.Cell.{netOf};
+ghost use Rattle.table.specs.RowLaws.{netOf};
 use refusal::Verdict;
-use refusal::one_test;
-use refusal::then;
+use refusal::first_refusal;
+use refusal::next_test;
 
 // Row i is not below the row before.
 fn keeps_up(net: &[i64], i: usize) -> bool
@@ -34,13 +34,13 @@ pub fn rows_tested(net: &[i64], rows: usize) -> Verdict
     requires { ⌜ (rows ≤ length (now net)) × (rows < 2 ^ 32) ⌝ }
     ensures { λ r. ⌜ r ≡ verdict (rowTests (netOf (now (net .entry))) rows) ⌝ }
 {
-    let mut falls = Verdict::Sound;
-    let mut below_zero = Verdict::Sound;
+    let mut falls = Verdict::Passed;
+    let mut below_zero = Verdict::Passed;
     let mut i: usize = 0;
     while i < rows {
-        falls = then(falls, one_test(9, i as u32, keeps_up(net, i)));
-        below_zero = then(below_zero, one_test(10, i as u32, not_below_zero(net, i)));
+        falls = next_test(falls, 9, i as u32, keeps_up(net, i));
+        below_zero = next_test(below_zero, 10, i as u32, not_below_zero(net, i));
         i += 1;
     }
-    then(falls, below_zero)
+    first_refusal(falls, below_zero)
 }

@@ -3,7 +3,7 @@
 ghost use mathlib.Core.Path.{_≡_};
 ghost use Prim.Native.Nat.{_≤_};
 ghost use lib.ListN.{length};
-ghost use Rattle.text.specs.Held.{textOf};
+ghost use Rattle.text.specs.LineText.{textOf};
 use libc::STDERR_FILENO;
 use libc::STDIN_FILENO;
 use libc::STDOUT_FILENO;
@@ -11,8 +11,9 @@ use lookup::height::HeightAnswer;
 use lookup::litres::LitresAnswer;
 use measure::dip_height::DipHeight;
 use measure::volume::Volume;
-use reading::height_from;
-use reading::litres_from;
+use survey::decode::LARGEST_FILE;
+use survey_lookup::height_from;
+use survey_lookup::litres_from;
 use text::line::Line;
 use text::line::figure_line;
 use text::line::refused_line;
@@ -53,7 +54,7 @@ fn answer_height(survey: &[u8], asked: u32) {
 // What is asked for, by the command's first word.
 fn answer(word: &[u8], asked: u32) {
     // one byte more than a survey may have tells that it is too long
-    let mut file = [0u8; 65537];
+    let mut file = [0u8; LARGEST_FILE + 1];
     if check::same(word, b"litres") {
         let n = io::read_full(STDIN_FILENO, &mut file);
         answer_litres(&file[..n], asked);

@@ -16,9 +16,16 @@ isDigit b = leb (code "0") b && leb b (code "9")
 abbrev pub valueOf : ℕ → ℕ
 valueOf b = b - code "0"
 
+-- the most digits of a whole part
+abbrev pub mostDigits : ℕ
+mostDigits = 8
+
 -- no figure has more hundredths than 32 bits hold
+abbrev pub largestFigure : ℕ
+largestFigure = 4_294_967_295
+
 abbrev pub fitting : ℕ → Figure
-fitting n = pick (leb n 4_294_967_295) (Hundredths n) NotAFigure
+fitting n = pick (leb n largestFigure) (Hundredths n) NotAFigure
 
 -- a whole part, what should be a point, and what should be two decimals
 abbrev pub pointed : ℕ → ℕ → ℕ → ℕ → Figure
@@ -41,7 +48,7 @@ ended (suc count) whole s = decimals whole s
 -- what a text says whose first `count` digits are read already, as the number `whole`
 unfoldable pub figureFrom : ℕ → ℕ → List ℕ → Figure
 figureFrom count whole [] = ended count whole []
-figureFrom count whole (b ∷ s) = pick (isDigit b && ltb count 8) (figureFrom (suc count) (10 * whole + valueOf b) s) (ended count whole (b ∷ s))
+figureFrom count whole (b ∷ s) = pick (isDigit b && ltb count mostDigits) (figureFrom (suc count) (10 * whole + valueOf b) s) (ended count whole (b ∷ s))
 
 unfoldable pub figureOf : List ℕ → Figure
 figureOf s = figureFrom 0 0 s

@@ -1,10 +1,12 @@
--- What the programs print and read: digits and figures, the lines, what a line's array holds, which text is a figure, and that
--- a figure is read back as it was written.
+-- What the programs print and read: a text as bytes (Ascii), digits (Digits), the lines (Lines), what text a line holds (LineText), and
+-- which text is a figure (Figures). The other files are laws: that a figure is read back as it was written, and worked examples.
 pub mod Ascii
 pub mod Digits
+pub mod DigitsLaws
 pub mod Lines
-pub mod Held
+pub mod LineText
+pub mod LineTextLaws
 pub mod Figures
-pub mod Places
-pub mod ReadBack
-pub mod Examples
+pub mod FiguresLaws
+pub mod ReadBackLaws
+pub mod ExampleLaws

@@ -3,20 +3,24 @@ ghost use Prim.Native.Nat.{_%_};
 ghost use mathlib.Core.List.{[], _∷_};
 ghost use lib.ListN.{length};
 ghost use Rattle.text.specs.Digits.{digitOf, digits, hundredths};
-ghost use Rattle.text.specs.Held.{Room, Added, Holds};
+ghost use Rattle.text.specs.LineText.{lineSize, Holds};
+ghost use Rattle.text.specs.LineTextLaws.{Room, Added};
 ghost use Rattle.text.specs.Lines.{rowsLine, rowLine, refusedLine, figureLine};
+
+// How many bytes a line has place for.
+pub const LINE_SIZE: usize = 64;
 
 // The text is the first `len` of the bytes.
 pub struct Line {
-    pub bytes: [u8; 64],
+    pub bytes: [u8; LINE_SIZE],
     pub len: usize,
 }
 
 fn empty() -> Line
-    ensures { λ r. ⌜ Room r 64 ⌝ }
+    ensures { λ r. ⌜ Room r lineSize ⌝ }
 {
     Line {
-        bytes: [0u8; 64],
+        bytes: [0u8; LINE_SIZE],
         len: 0,
     }
 }

@@ -1,8 +1,15 @@
 // Reading a figure: one to eight digits, and if they follow, a point and one or two decimals. Nothing else is one.
 ghost use Prim.Native.Nat.{_^_, _≤_, _<_};
 ghost use mathlib.Core.Path.{_≡_};
-ghost use Rattle.text.specs.Figures.{isDigit, valueOf, fitting, pointed, decimals, figureOf};
-ghost use Rattle.text.specs.Places.{wholePlace};
+ghost use Rattle.text.specs.Digits.{digitOf};
+ghost use Rattle.text.specs.Figures.{isDigit, valueOf, mostDigits, fitting, pointed, decimals, figureOf};
+ghost use Rattle.text.specs.FiguresLaws.{wholePlace};
+
+// The most digits of a whole part.
+const MOST_DIGITS: usize = 8;
+
+// The most hundredths of a figure: what 32 bits hold.
+const LARGEST_FIGURE: u64 = 4_294_967_295;
 
 // In hundredths of what the text counts.
 pub enum Figure {
@@ -18,7 +25,7 @@ fn is_digit(b: u8) -> bool
 
 // What a digit stands for.
 fn value(b: u8) -> u64
-    requires { ⌜ 48 ≤ b ⌝ }
+    requires { ⌜ digitOf 0 ≤ b ⌝ }
     ensures { λ r. ⌜ r ≡ valueOf b ⌝ }
 {
     (b - b'0') as u64
@@ -27,7 +34,7 @@ fn value(b: u8) -> u64
 fn as_figure(n: u64) -> Figure
     ensures { λ r. ⌜ r ≡ fitting n ⌝ }
 {
-    if n <= 4_294_967_295 {
+    if n <= LARGEST_FIGURE {
         Figure::Hundredths(n as u32)
     } else {
         Figure::NotAFigure
@@ -36,7 +43,7 @@ fn as_figure(n: u64) -> Figure
 
 // A whole part with what should be a point and two decimals.
 fn with_point(whole: u64, point: u8, tenth: u8, hundredth: u8) -> Figure
-    requires { ⌜ whole < 10 ^ 8 ⌝ }
+    requires { ⌜ whole < 10 ^ mostDigits ⌝ }
     ensures { λ r. ⌜ r ≡ pointed whole point tenth hundredth ⌝ }
 {
     if point != b'.' {
@@ -53,7 +60,7 @@ fn with_point(whole: u64, point: u8, tenth: u8, hundredth: u8) -> Figure
 
 // A whole part with what stands behind it. Decimals that are not written are zeros.
 fn with_decimals(whole: u64, s: &[u8]) -> Figure
-    requires { ⌜ whole < 10 ^ 8 ⌝ }
+    requires { ⌜ whole < 10 ^ mostDigits ⌝ }
     ensures { λ r. ⌜ r ≡ decimals whole (now (s .entry)) ⌝ }
 {
     if s.len() == 0 {
@@ -75,7 +82,7 @@ fn goes_on(s: &[u8], at: usize) -> bool
     if s.len() <= at {
         return false;
     }
-    if 8 <= at {
+    if MOST_DIGITS <= at {
         return false;
     }
     is_digit(s[at])

@@ -4,7 +4,7 @@ use borrow.Author.Needs.{needs}
 use Rattle.lookup.specs.Answer.{heightAnswer}
 use Rattle.measure.specs.Quantity.{volumeUnits}
 use Rattle.capi.specs.Numbers.{heightNumbers}
-use Rattle.capi.specs.Reached.{lowest-answered}
+use Rattle.capi.specs.PromiseLaws.{lowest-answered}
 use Rattle.capi.proofs.milechime_height.Statement.{statement}
 use Rattle.capi.proofs.milechime_height.Tie as tie
 

@@ -3,8 +3,9 @@
 use mathlib.Core.Path.{_∙_, ap}
 use lib.ListN.{length}
 use borrow.Author.Needs.{needs}
+use Rattle.survey.specs.Survey.{decoded}
 use Rattle.capi.specs.Numbers.{tableNumbers}
-use Rattle.capi.specs.Slabs.{counted}
+use Rattle.capi.specs.PromiseLaws.{counted}
 use Rattle.capi.proofs.milechime_table.Statement.{statement}
 use Rattle.capi.proofs.milechime_table.Tie as tie
 
@@ -13,7 +14,7 @@ returns c =
     let a = c .before .before .before .before .before .before .before .args in
     let told = c .before .before .before .make-table .ensures in
     let numbers = c .table-numbers .ensures ∙ ap tableNumbers (told .0) in
-    (numbers, (told .1 .0, rw numbers (counted (a .survey .now) (length (a .table .now)) _ (rw (told .0) at (told .1 .1)))))
+    (numbers, (told .1 .0, rw numbers (counted (decoded (a .survey .now)) (length (a .table .now)) _ (rw (told .0) at (told .1 .1)))))
 
 pub milechime-table-spec : {M : Type 1} → statement M
 milechime-table-spec = tie.close (tie.spec (λ c κs. search needs) (λ c κs. search needs) (λ c. search needs) returns)

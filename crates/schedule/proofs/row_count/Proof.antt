@@ -2,7 +2,7 @@
 use native.Mathlib.Nat.{div-le-self}
 use native.Mathlib.Omega.{arith}
 use borrow.Author.Needs.{needs}
-use Rattle.schedule.specs.Rows.{count-even, count-odd}
+use Rattle.schedule.specs.RowsLaws.{count-even, count-odd}
 use Rattle.schedule.proofs.row_count.Statement.{statement}
 use Rattle.schedule.proofs.row_count.Tie as tie
 

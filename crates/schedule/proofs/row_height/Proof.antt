@@ -4,7 +4,8 @@ use native.Mathlib.Nat.{min-eq-left, min-eq-right, le-of-lt}
 use native.Mathlib.Omega.{arith}
 use borrow.Author.Needs.{needs}
 use Rattle.measure.specs.Quantity.{dipHeight}
-use Rattle.schedule.specs.Rows.{rowHeight, steps-at-most}
+use Rattle.schedule.specs.Rows.{rowHeight}
+use Rattle.schedule.specs.RowsLaws.{steps-at-most}
 use Rattle.schedule.proofs.row_height.Statement.{statement}
 use Rattle.schedule.proofs.row_height.Tie as tie
 

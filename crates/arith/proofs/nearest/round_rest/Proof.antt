@@ -3,8 +3,8 @@ use mathlib.Core.Path.{sym, _∙_}
 use Prim.Native.Nat.{_+_, _≤_, _<_}
 use native.Mathlib.Omega.{arith}
 use borrow.Author.Needs.{needs}
-use Rattle.laws.specs.Order.{pick-le, pick-gt}
-use Rattle.laws.specs.Nearest.{nearest-of-rest}
+use Rattle.laws.specs.OrderLaws.{pick-le, pick-gt}
+use Rattle.laws.specs.NearestLaws.{nearest-of-rest}
 use Rattle.arith.proofs.nearest.round_rest.Statement.{statement}
 use Rattle.arith.proofs.nearest.round_rest.Tie as tie
 

@@ -6,7 +6,7 @@ use native.Mathlib.Nat.{mul-le-mul-right}
 use native.Mathlib.Omega.{arith}
 use borrow.Fn.Kinds.{In}
 use borrow.Fn.PlainCycle.{Measures, is, falls, and}
-use Rattle.arith.specs.Quotient.{Divided, quotient-at-most}
+use Rattle.arith.specs.QuotientLaws.{Divided, quotient-at-most}
 use Rattle.arith.proofs.product.divided.Reads as divided
 use Rattle.arith.proofs.product.divided.Kinds as divided-kinds
 use Rattle.arith.proofs.product.+divided.Lts-divided as divided-lts

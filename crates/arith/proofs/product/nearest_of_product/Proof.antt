@@ -4,7 +4,7 @@ use Prim.Native.Nat.{ℕ}
 use native.Mathlib.Omega.{arith}
 use borrow.Author.Needs.{needs}
 use Rattle.laws.specs.Nearest.{nearest}
-use Rattle.arith.specs.Quotient.{quotient-at-most}
+use Rattle.arith.specs.QuotientLaws.{quotient-at-most}
 use Rattle.arith.proofs.product.nearest_of_product.Statement.{statement}
 use Rattle.arith.proofs.product.nearest_of_product.Tie as tie
 

@@ -3,7 +3,7 @@ use native.Mathlib.Omega.{arith}
 use lib.IntN.{negℤ}
 use mir.Syntax.{w64}
 use mir.ValLaws.{toZ-ofZ}
-use Rattle.laws.specs.Signed.{negated-size}
+use Rattle.laws.specs.SignedLaws.{negated-size}
 use Rattle.arith.proofs.Sums.{sum-fits}
 use Rattle.arith.proofs.signed.minus.Statement.{statement}
 use Rattle.arith.proofs.signed.minus.Tie as tie

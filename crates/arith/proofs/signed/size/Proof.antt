@@ -7,7 +7,7 @@ use lib.IntN.{negsuc}
 use lib.Signed.{mag}
 use mir.Syntax.{w64}
 use mir.ValLaws.{toZ-ofZ, toZ-pos}
-use Rattle.laws.specs.Signed.{negative, natural}
+use Rattle.laws.specs.SignedLaws.{negative, natural}
 use Rattle.arith.proofs.signed.size.Statement.{statement}
 use Rattle.arith.proofs.signed.size.Tie as tie
 

@@ -7,7 +7,7 @@ use lib.IntN.{pos, negℤ, _-ℤ_, +ℤ-idl}
 use mir.Syntax.{w64}
 use mir.Val.{toZ}
 use mir.ValLaws.{toZ-ofZ, toZ-pos}
-use Rattle.laws.specs.Signed.{negative, natural, negated-size}
+use Rattle.laws.specs.SignedLaws.{negative, natural, negated-size}
 use Rattle.arith.proofs.Sums.{small-fits}
 use Rattle.arith.proofs.signed.with_sign.Statement.{statement}
 use Rattle.arith.proofs.signed.with_sign.Tie as tie

@@ -5,7 +5,7 @@ use Prim.Native.Nat.{ℕ, _+_, _-_, _/_, _<_}
 use native.Mathlib.Omega.{arith}
 use borrow.Fn.Kinds.{In}
 use borrow.Fn.PlainCycle.{Measures, is, falls, and}
-use Rattle.lookup.specs.Height.{lowest-is, among-one, among-upper, among-lower}
+use Rattle.lookup.specs.HeightLaws.{lowest-is, among-one, among-upper, among-lower}
 use Rattle.lookup.proofs.height.lowest.Reads as lowest
 use Rattle.lookup.proofs.height.lowest.Kinds as lowest-kinds
 use Rattle.lookup.proofs.height.+lowest.Lts-lowest as lowest-lts

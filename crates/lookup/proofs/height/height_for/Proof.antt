@@ -8,11 +8,15 @@ use borrow.Author.Needs.{needs}
 use borrow.Author.Tests.{le-leb, lt-leb, not-true, not-false}
 use lib.ListN.{length}
 use Rattle.measure.specs.Quantity.{dipHeight, volumeUnits}
-use Rattle.schedule.specs.Rows.{rowCount, count-pos}
+use Rattle.schedule.specs.Rows.{rowCount}
+use Rattle.schedule.specs.RowsLaws.{count-pos}
 use Rattle.lookup.specs.declared.height.HeightAnswer.the-variants.{Height}
-use Rattle.lookup.specs.Table.{row, soundTable, Sound, sound}
-use Rattle.lookup.specs.Litres.{litres, litres-at-top}
-use Rattle.lookup.specs.Height.{heightFor, reached}
+use Rattle.lookup.specs.Table.{row, soundTable}
+use Rattle.lookup.specs.TableLaws.{SoundTable, sound}
+use Rattle.lookup.specs.Litres.{litres}
+use Rattle.lookup.specs.LitresLaws.{litres-at-top}
+use Rattle.lookup.specs.Height.{heightFor}
+use Rattle.lookup.specs.HeightLaws.{reached}
 use Rattle.lookup.specs.Answer.{heightAnswer}
 use Rattle.lookup.proofs.height.height_for.Statement.{statement}
 use Rattle.lookup.proofs.height.height_for.Tie as tie
@@ -20,9 +24,9 @@ use Rattle.lookup.proofs.height.height_for.Tie as tie
 -- past the first test the table is sound
 fine : (c : tie.Else1)
     → soundTable (c .before .before .before .args .dh) (c .before .before .before .args .step) (c .before .before .before .args .table .now) ≡ true
-fine c = sym (c .before .is-sound .ensures) ∙ not-false _ (c .if1 .left)
+fine c = sym (c .before .is-sound-table .ensures) ∙ not-false _ (c .if1 .left)
 
-sound-table : (c : tie.Else1) → Sound (c .before .before .before .args .dh) (c .before .before .before .args .step) (c .before .before .before .args .table .now)
+sound-table : (c : tie.Else1) → SoundTable (c .before .before .before .args .dh) (c .before .before .before .args .step) (c .before .before .before .args .table .now)
 sound-table c = sound _ _ _ (fine c)
 
 -- and has rows
@@ -49,7 +53,7 @@ returns : tie.Need-returns
 unfolding heightAnswer
 returns c =
     let a = c .before .before .before .args in
-    let faulty : soundTable (a .dh) (a .step) (a .table .now) ≡ false = sym (c .before .is-sound .ensures) ∙ not-true _ (c .if1 .taken) in
+    let faulty : soundTable (a .dh) (a .step) (a .table .now) ≡ false = sym (c .before .is-sound-table .ensures) ∙ not-true _ (c .if1 .taken) in
     (simp faulty, tt)
 
 sub-if2 : tie.Need-sub-if2

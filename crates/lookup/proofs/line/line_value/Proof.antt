@@ -4,7 +4,8 @@ use Prim.Native.Nat.{ℕ, _+_, _*_, _-_, _^_, _≤_, _<_}
 use native.Mathlib.Nat.{mul-le-mul, le-of-lt}
 use native.Mathlib.Omega.{arith}
 use Rattle.schedule.specs.Rows.{largestStep}
-use Rattle.lookup.specs.Line.{lineValue, line-at-most}
+use Rattle.lookup.specs.Line.{lineValue}
+use Rattle.lookup.specs.LineLaws.{line-at-most}
 use borrow.Author.Needs.{needs}
 use Rattle.lookup.proofs.line.line_value.Statement.{statement}
 use Rattle.lookup.proofs.line.line_value.Tie as tie

@@ -6,7 +6,8 @@ use borrow.Author.Needs.{needs}
 use borrow.Author.Tests.{le-leb, lt-leb, not-true, not-false}
 use Rattle.measure.specs.Quantity.{dipUnits, volume}
 use Rattle.lookup.specs.declared.litres.LitresAnswer.the-variants.{Litres}
-use Rattle.lookup.specs.Table.{soundTable, sound}
+use Rattle.lookup.specs.Table.{soundTable}
+use Rattle.lookup.specs.TableLaws.{sound}
 use Rattle.lookup.specs.Litres.{litres}
 use Rattle.lookup.specs.Answer.{litresAnswer}
 use Rattle.lookup.proofs.litres.litres_at.Statement.{statement}
@@ -15,13 +16,13 @@ use Rattle.lookup.proofs.litres.litres_at.Tie as tie
 -- past the first test the table is sound
 fine : (c : tie.Else1)
     → soundTable (c .before .before .before .args .dh) (c .before .before .before .args .step) (c .before .before .before .args .table .now) ≡ true
-fine c = sym (c .before .is-sound .ensures) ∙ not-false _ (c .if1 .left)
+fine c = sym (c .before .is-sound-table .ensures) ∙ not-false _ (c .if1 .left)
 
 returns : tie.Need-returns
 unfolding litresAnswer
 returns c =
     let a = c .before .before .before .args in
-    let faulty : soundTable (a .dh) (a .step) (a .table .now) ≡ false = sym (c .before .is-sound .ensures) ∙ not-true _ (c .if1 .taken) in
+    let faulty : soundTable (a .dh) (a .step) (a .table .now) ≡ false = sym (c .before .is-sound-table .ensures) ∙ not-true _ (c .if1 .taken) in
     simp faulty
 
 returns-2 : tie.Need-returns-2

@@ -5,10 +5,11 @@ use Prim.Native.Nat.{ℕ, _+_, _-_, _/_, _≤_, _<_}
 use native.Mathlib.Nat.{div-le-self}
 use native.Mathlib.Omega.{arith}
 use Rattle.measure.specs.Quantity.{dipUnits}
-use Rattle.schedule.specs.Rows.{rowCount, rowHeight, count-pos, inside-count, inside-below, inside-above, gap-at-most}
+use Rattle.schedule.specs.Rows.{rowCount, rowHeight}
+use Rattle.schedule.specs.RowsLaws.{count-pos, inside-count, inside-below, inside-above, gap-at-most}
 use Rattle.lookup.specs.Line.{lineValue}
 use Rattle.lookup.specs.Table.{row}
-use Rattle.lookup.specs.Litres.{litres-at-top, litres-inside}
+use Rattle.lookup.specs.LitresLaws.{litres-at-top, litres-inside}
 use borrow.Author.Needs.{needs}
 use Rattle.lookup.proofs.litres.litres_inside.Statement.{statement}
 use Rattle.lookup.proofs.litres.litres_inside.Tie as tie
@@ -91,7 +92,7 @@ on-line-requires c κs =
     let f = neighbours start (omega arith) in
     let low = c .before .before .units .ensures ∙ ap dipUnits (c .before .before .before .row-height .ensures) in
     let high = c .units2 .ensures ∙ ap dipUnits (c .before .row-height2 .ensures) in
-    ((omega (arith, start .pre .0 .count), start .pre .0 .keeps-up _ (f .count)), omega (arith, start .pre .0 .step-high))
+    ((omega (arith, start .pre .0 .count), start .pre .0 .keepsUp _ (f .count)), omega (arith, start .pre .0 .step-high))
 
 returns-2 : tie.Need-returns-2
 returns-2 c =

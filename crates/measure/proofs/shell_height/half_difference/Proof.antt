@@ -9,7 +9,7 @@ use mir.Syntax.{w64}
 use mir.Val.{SFits, toZ, ofZ}
 use mir.ValLaws.{toZ-pos, toZ-ofZ}
 use Rattle.laws.specs.Half.{floorHalf}
-use Rattle.laws.specs.Signed.{minus, difference-size}
+use Rattle.laws.specs.SignedLaws.{minus, difference-size}
 use Rattle.measure.proofs.shell_height.half_difference.Statement.{statement}
 use Rattle.measure.proofs.shell_height.half_difference.Tie as tie
 

@@ -7,9 +7,9 @@ use lib.IntN.{pos, negsuc, _-ℤ_}
 use mir.Syntax.{w64}
 use mir.Val.{SFits, toZ}
 use mir.ValLaws.{toZ-pos, toZ-ofZ}
-use Rattle.laws.specs.Half.{difference-down}
-use Rattle.laws.specs.Order.{pick-le, pick-gt}
-use Rattle.laws.specs.Signed.{minus}
+use Rattle.laws.specs.HalfLaws.{difference-down}
+use Rattle.laws.specs.OrderLaws.{pick-le, pick-gt}
+use Rattle.laws.specs.SignedLaws.{minus}
 use Rattle.survey.specs.Word.{signedWord}
 use Rattle.survey.proofs.word.signed_word.Statement.{statement}
 use Rattle.survey.proofs.word.signed_word.Tie as tie

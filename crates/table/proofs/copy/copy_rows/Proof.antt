@@ -6,9 +6,9 @@ use native.Mathlib.Omega.{arith}
 use lib.IntN.{natAbs}
 use mir.Syntax.{w64}
 use mir.ValLaws.{toZ-ofZ}
-use Rattle.laws.specs.Fill.{Filled, filled-none, filled-more, filled-all}
-use Rattle.laws.specs.Signed.{mag-at-most}
-use Rattle.table.specs.Cell.{netOf, cellIn}
+use Rattle.laws.specs.FillLaws.{Filled, filled-none, filled-more, filled-all}
+use Rattle.laws.specs.SignedLaws.{mag-at-most}
+use Rattle.table.specs.RowLaws.{netOf, cellIn}
 use Rattle.table.proofs.copy.copy_rows.Statement.{statement}
 use Rattle.table.proofs.copy.copy_rows.Tie as tie
 

@@ -4,8 +4,8 @@ use Prim.Native.Nat.{_-_}
 use lib.Signed.{leZ}
 use mir.Syntax.{w64}
 use mir.ValLaws.{toZ-ofZ}
-use Rattle.table.specs.Tests.{keeps-up-before}
-use Rattle.table.specs.Cell.{netOf}
+use Rattle.table.specs.RowLaws.{netOf}
+use Rattle.table.specs.RowTestLaws.{keepsUp-before}
 use borrow.Author.Needs.{needs}
 use Rattle.table.proofs.tests.keeps_up.Statement.{statement}
 use Rattle.table.proofs.tests.keeps_up.Tie as tie
@@ -14,7 +14,7 @@ returns-2 : tie.Need-returns-2
 returns-2 c =
     let a = c .before .before .before .args in
     ap₂ leZ (toZ-ofZ w64 (netOf (a .net .now) (a .i - 1)) (record { sfits = c .before .result .given })) (toZ-ofZ w64 (netOf (a .net .now) (a .i)) (record { sfits = c .result2 .given }))
-    ∙ sym (keeps-up-before (netOf (a .net .now)) (a .i) (c .before .before .if1 .left))
+    ∙ sym (keepsUp-before (netOf (a .net .now)) (a .i) (c .before .before .if1 .left))
 
 pub keeps-up-spec : {M : Type 1} → statement M
 keeps-up-spec =

@@ -4,8 +4,8 @@ use lib.IntN.{pos}
 use lib.Signed.{leZ}
 use mir.Syntax.{w64}
 use mir.ValLaws.{toZ-ofZ}
-use Rattle.table.specs.Tests.{not-below-zero}
-use Rattle.table.specs.Cell.{netOf}
+use Rattle.table.specs.RowLaws.{netOf}
+use Rattle.table.specs.RowTestLaws.{not-below-zero}
 use borrow.Author.Needs.{needs}
 use Rattle.table.proofs.tests.not_below_zero.Statement.{statement}
 use Rattle.table.proofs.tests.not_below_zero.Tie as tie

@@ -5,8 +5,8 @@ use native.Mathlib.Omega.{arith}
 use borrow.Fn.Kinds.{In}
 use borrow.Fn.PlainCycle.{Measures, is, falls, and}
 use lib.ListN.{length, length-append}
-use Rattle.text.specs.Digits.{digits-one, digits-more}
-use Rattle.text.specs.Held.{added-both}
+use Rattle.text.specs.DigitsLaws.{digits-one, digits-more}
+use Rattle.text.specs.LineTextLaws.{added-both}
 use Rattle.text.proofs.line.with_digits.Reads as with-digits
 use Rattle.text.proofs.line.with_digits.Kinds as with-digits-kinds
 use Rattle.text.proofs.line.+with_digits.Lts-with_digits as with-digits-lts

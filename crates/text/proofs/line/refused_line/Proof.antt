@@ -1,8 +1,8 @@
 -- `text::line::refused_line` meets its contract: its pieces are added to an empty line, with room to spare. Assumes nothing.
 use native.Mathlib.Omega.{arith}
 use borrow.Author.Needs.{needs}
-use Rattle.text.specs.Digits.{digits-at-most}
-use Rattle.text.specs.Held.{added-both, held}
+use Rattle.text.specs.DigitsLaws.{digits-at-most}
+use Rattle.text.specs.LineTextLaws.{added-both, holds-all}
 use Rattle.text.specs.Lines.{refusedLine}
 use Rattle.text.proofs.line.refused_line.Statement.{statement}
 use Rattle.text.proofs.line.refused_line.Tie as tie
@@ -26,7 +26,7 @@ with-byte-requires-2 c κs =
 returns : tie.Need-returns
 unfolding refusedLine
 returns c =
-    held (c .before .before .before .before .before .before .empty .ensures)
+    holds-all (c .before .before .before .before .before .before .empty .ensures)
     (added-both
     (added-both
     (added-both (added-both (c .before .before .before .before .with-bytes .ensures) (c .before .before .before .with-digits .ensures)) (c .before .before .with-byte .ensures))

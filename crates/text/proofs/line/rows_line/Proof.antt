@@ -1,8 +1,8 @@
 -- `text::line::rows_line` meets its contract: its pieces are added to an empty line, with room to spare. Assumes nothing.
 use native.Mathlib.Omega.{arith}
 use borrow.Author.Needs.{needs}
-use Rattle.text.specs.Digits.{digits-at-most}
-use Rattle.text.specs.Held.{added-both, held}
+use Rattle.text.specs.DigitsLaws.{digits-at-most}
+use Rattle.text.specs.LineTextLaws.{added-both, holds-all}
 use Rattle.text.specs.Lines.{rowsLine}
 use Rattle.text.proofs.line.rows_line.Statement.{statement}
 use Rattle.text.proofs.line.rows_line.Tie as tie
@@ -16,7 +16,7 @@ with-byte-requires c κs = omega (arith, digits-at-most (c .before .before .befo
 returns : tie.Need-returns
 unfolding rowsLine
 returns c =
-    held (c .before .before .before .before .empty .ensures)
+    holds-all (c .before .before .before .before .empty .ensures)
     (added-both (added-both (c .before .before .with-bytes .ensures) (c .before .with-digits .ensures)) (c .with-byte .ensures))
 
 pub rows-line-spec : {M : Type 1} → statement M

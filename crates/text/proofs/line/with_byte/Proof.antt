@@ -1,6 +1,6 @@
 -- `text::line::with_byte` meets its contract: the byte is stored behind the text. Assumes nothing.
 use borrow.Author.Needs.{needs}
-use Rattle.text.specs.Held.{added-byte}
+use Rattle.text.specs.LineTextLaws.{added-byte}
 use Rattle.text.proofs.line.with_byte.Statement.{statement}
 use Rattle.text.proofs.line.with_byte.Tie as tie
 

@@ -7,7 +7,8 @@ use native.Mathlib.Numerals.{add-one}
 use native.Mathlib.Omega.{arith}
 use lib.ListN.{length, getD, take}
 use lib.Seq.{take-suc, take-length}
-use Rattle.text.specs.Held.{textOf, Added, added-byte, added-both}
+use Rattle.text.specs.LineText.{textOf}
+use Rattle.text.specs.LineTextLaws.{Added, added-byte, added-both}
 use Rattle.text.proofs.line.with_bytes.Statement.{statement}
 use Rattle.text.proofs.line.with_bytes.Tie as tie
 

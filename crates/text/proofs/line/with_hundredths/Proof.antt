@@ -1,8 +1,9 @@
 -- `text::line::with_hundredths` meets its contract: the whole part, the point and the two decimals, one after another. Assumes
 -- nothing.
 use native.Mathlib.Omega.{arith}
-use Rattle.text.specs.Digits.{hundredths, length-hundredths}
-use Rattle.text.specs.Held.{added-both}
+use Rattle.text.specs.Digits.{hundredths}
+use Rattle.text.specs.DigitsLaws.{length-hundredths}
+use Rattle.text.specs.LineTextLaws.{added-both}
 use Rattle.text.proofs.line.with_hundredths.Statement.{statement}
 use Rattle.text.proofs.line.with_hundredths.Tie as tie
 

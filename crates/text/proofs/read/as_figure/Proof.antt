@@ -1,7 +1,7 @@
 -- `text::read::as_figure` meets its contract, by its test. Assumes nothing.
 use mathlib.Core.Path.{sym}
 use borrow.Author.Needs.{needs}
-use Rattle.laws.specs.Order.{pick-le, pick-gt}
+use Rattle.laws.specs.OrderLaws.{pick-le, pick-gt}
 use Rattle.text.proofs.read.as_figure.Statement.{statement}
 use Rattle.text.proofs.read.as_figure.Tie as tie
 

@@ -9,18 +9,18 @@ use native.Mathlib.Omega.{arith}
 use borrow.Author.Needs.{needs}
 use lib.ListN.{length, drop, length-drop}
 use lib.Seq.{take-all}
-use Rattle.text.specs.Figures.{decimals, ended, figureFrom, figureOf}
-use Rattle.text.specs.Places.{wholePlace, Place, place, figure-on, figure-ended, ended-some}
+use Rattle.text.specs.Figures.{mostDigits, decimals, ended, figureFrom, figureOf}
+use Rattle.text.specs.FiguresLaws.{wholePlace, Place, place, figure-on, figure-ended, ended-some}
 use Rattle.text.proofs.read.read_figure.Statement.{statement}
 use Rattle.text.proofs.read.read_figure.Tie as tie
 
 abbrev Inv-loop : tie.InvT-loop
-Inv-loop s whole₀ i₀ whole i = (i ≤ length s) × (i ≤ 8) × (whole < 10 ^ i) × (figureOf s ≡ figureFrom i whole (drop i s))
+Inv-loop s whole₀ i₀ whole i = (i ≤ length s) × (i ≤ mostDigits) × (whole < 10 ^ i) × (figureOf s ≡ figureFrom i whole (drop i s))
 
 abbrev μ-loop : tie.MeasureT-loop
-μ-loop s whole₀ i₀ whole i = 8 - i
+μ-loop s whole₀ i₀ whole i = mostDigits - i
 
-below : {i n : ℕ} → i ≤ 8 → n < 10 ^ i → n < 10 ^ 8
+below : {i n : ℕ} → i ≤ mostDigits → n < 10 ^ i → n < 10 ^ mostDigits
 below l h = lt-of-lt-of-le h (pow-le-pow-right (zero-lt-suc 9) l)
 
 -- what a turn knows of its place, and what is known after the loop
@@ -38,9 +38,6 @@ read-out c = c .before .before .loop .inv .3 ∙ figure-ended _ _ _ (sym (c .bef
 loop-holds : tie.Need-loop-holds Inv-loop μ-loop
 unfolding figureOf
 loop-holds c = (omega arith, omega arith, omega arith, refl)
-
-goes-on-requires : tie.Need-goes-on-requires Inv-loop μ-loop
-goes-on-requires c κs = tt
 
 mul-whole : tie.Need-mul-whole Inv-loop μ-loop
 mul-whole c = omega (arith, below (c .before .before .loop .inv .1) (c .before .before .loop .inv .2))
@@ -87,6 +84,6 @@ returns-2 c =
 pub read-figure-spec : {M : Type 1} → statement M
 read-figure-spec =
     tie.close
-    (tie.spec Inv-loop μ-loop loop-holds goes-on-requires mul-whole shared-slice-read-value value-requires add-whole
-    (λ c. omega arith) loop-less loop-again returns (λ c. omega arith) (λ c. search needs) (λ c. search needs)
+    (tie.spec Inv-loop μ-loop loop-holds (λ c κs. tt) mul-whole shared-slice-read-value value-requires add-whole (λ c.
+    omega arith) loop-less loop-again returns (λ c. omega arith) (λ c. search needs) (λ c. search needs)
     with-decimals-requires returns-2)

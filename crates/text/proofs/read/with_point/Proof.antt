@@ -1,15 +1,16 @@
 -- `text::read::with_point` meets its contract: no figure at the first test that fails, and the sum where none does. Assumes
 -- nothing.
+use Prim.Native.Char.{code}
 use mathlib.Core.Path.{sym, _∙_}
 use mathlib.Core.Bool.{and-false}
 use borrow.Author.Needs.{needs}
 use borrow.Author.Tests.{eq-eqb, ne-eqb, not-true, not-false}
-use Rattle.text.specs.Places.{digit-within}
+use Rattle.text.specs.FiguresLaws.{digit-within}
 use Rattle.text.proofs.read.with_point.Statement.{statement}
 use Rattle.text.proofs.read.with_point.Tie as tie
 
 returns : tie.Need-returns
-returns c = rw (ne-eqb (c .before .args .point) 46 (c .if1 .taken))
+returns c = rw (ne-eqb (c .before .args .point) (code ".") (c .if1 .taken))
 
 returns-2 : tie.Need-returns-2
 returns-2 c =
@@ -31,7 +32,7 @@ returns-4 : tie.Need-returns-4
 returns-4 c =
     let passed = c .before .before .before in
     let start = passed .before .before .before .before .before in
-    let point = eq-eqb (start .args .point) 46 (passed .before .before .before .before .if1 .left) in
+    let point = eq-eqb (start .args .point) (code ".") (passed .before .before .before .before .if1 .left) in
     let tenth = sym (passed .before .before .before .is-digit .ensures) ∙ not-false _ (passed .before .before .if2 .left) in
     let hundredth = sym (passed .before .is-digit2 .ensures) ∙ not-false _ (passed .if3 .left) in
     rw (point, tenth, hundredth, ← c .before .before .value .ensures, ← c .before .value2 .ensures) (c .as-figure .ensures)

@@ -3,6 +3,7 @@
 use mathlib.Core.Path.{refl}
 use native.Mathlib.Omega.{arith}
 use borrow.Author.Tests.{le-leb, lt-leb}
+use borrow.Author.Needs.{needs}
 use Rattle.measure.specs.Diameter.{smallest, largest}
 use Rattle.measure.proofs.diameter.Diameter.of.Statement.{statement}
 use Rattle.measure.proofs.diameter.Diameter.of.Tie as tie
@@ -23,4 +24,6 @@ returns-3 c =
     (simp (le-leb smallest n (omega arith), le-leb n largest (omega arith)), (refl, refl))
 
 pub of-spec : {M : Type 1} → statement M
-of-spec = tie.close (tie.spec returns returns-2 returns-3)
+of-spec =
+    tie.close
+    (tie.spec (λ c. search needs) returns (λ c. search needs) returns-2 (λ c. search needs) returns-3)

@@ -1,0 +1,11 @@
+-- The heads of a tank, a file for each question that the kind of head answers: its number in a survey (Kind), its length
+-- (Length), its volume (Volume) and its slabs (Slabs). The other files are laws.
+pub mod Kind
+pub mod Length
+pub mod LengthLaws
+pub mod Volume
+pub mod CapLaws
+pub mod VolumeLaws
+pub mod Slabs
+pub mod SectionLaws
+pub mod SlabsLaws

@@ -1,0 +1,12 @@
+-- The volume of both heads by their kind, to the nearest v (document 01, 'Volume'). Lengths are in u. Assumes nothing.
+use Prim.Native.Nat.{ℕ, _*_, _-_}
+use Rattle.laws.specs.Nearest.{nearest}
+use Rattle.measure.specs.Pi.{piOver, piUnder}
+use Rattle.measure.specs.Quantity.{cubicPerV}
+use Rattle.heads.specs.declared.kind.HeadKind.{HeadKind}
+use Rattle.heads.specs.declared.kind.HeadKind.the-variants.{Flat, HalfEllipsoid}
+
+-- diameter D and inner length L, filled to H: pi · L · H² · (3D - 2H) / 3D
+unfoldable pub headsVolume : HeadKind → (d l h : ℕ) → ℕ
+headsVolume Flat d l h = 0
+headsVolume HalfEllipsoid d l h = nearest (piOver * l * (h * h) * (3 * d - 2 * h)) (piUnder * (3 * d) * cubicPerV)

@@ -1,0 +1,38 @@
+-- The volume of heads by its polynomial, and what no heads within the limits exceed. Assumes nothing.
+use Prim.Native.Nat.{ℕ, _*_, _-_, _≤_, _<_}
+use mathlib.Core.Path.{_≡_, refl}
+use native.Mathlib.Nat.{le-refl, le-trans, mul-le-mul, mul-assoc}
+use native.Mathlib.Omega.{arith}
+use Rattle.laws.specs.Nearest.{nearest}
+use Rattle.laws.specs.NearestLaws.{nearest-at-most}
+use Rattle.measure.specs.Diameter.{largest}
+use Rattle.measure.specs.Quantity.{cubicPerV}
+use Rattle.measure.specs.Pi.{piOver, piUnder}
+use Rattle.heads.specs.declared.kind.HeadKind.{HeadKind}
+use Rattle.heads.specs.declared.kind.HeadKind.the-variants.{Flat, HalfEllipsoid}
+use Rattle.heads.specs.Length.{longest}
+use Rattle.heads.specs.Volume.{headsVolume}
+use Rattle.heads.specs.CapLaws.{cap, cap-at-most}
+
+pub volume-by-cap : (d l h : ℕ)
+    → headsVolume HalfEllipsoid d l h ≡ nearest (piOver * l * cap d h) (piUnder * (3 * d) * cubicPerV)
+unfolding headsVolume cap
+volume-by-cap d l h = rw (mul-assoc (piOver * l) (h * h) (3 * d - 2 * h)) refl
+
+-- the polynomial of the largest heads
+pub cap-limit : (d l h : ℕ) → h ≤ d → d ≤ largest → l ≤ longest → l * cap d h ≤ longest * (largest * largest * d)
+cap-limit d l h h-high d-high l-high =
+    mul-le-mul l-high (le-trans (cap-at-most d h h-high) (mul-le-mul (mul-le-mul d-high d-high) (le-refl d)))
+
+-- in v; the largest heads hold less
+abbrev pub mostHeads : ℕ
+mostHeads = 10000000
+
+pub heads-at-most : (kind : HeadKind) (d l h : ℕ) → h ≤ d → 0 < d → d ≤ largest → l ≤ longest
+    → headsVolume kind d l h ≤ mostHeads
+unfolding headsVolume
+heads-at-most Flat d l h h-high d-low d-high l-high = omega arith
+heads-at-most HalfEllipsoid d l h h-high d-low d-high l-high =
+    rw (volume-by-cap d l h)
+    (nearest-at-most _ mostHeads (piUnder * (3 * d) * cubicPerV) (omega arith)
+    (omega (arith, cap-limit d l h h-high d-high l-high)))

@@ -1,0 +1,26 @@
+-- Splitting on an order of two numbers, and what is picked by one: the one place where a law goes by cases. Assumes nothing.
+use Prim.Native.Nat.{ℕ, _*_, _≤_, _<_}
+use mathlib.Core.Path.{_≡_}
+use native.Mathlib.Decide.{decLe}
+use native.Mathlib.Nat.{lt-of-not-le, not-le-of-lt, mul-le-mul}
+use lib.Dec.{leb}
+use borrow.Author.Tests.{le-leb, lt-leb}
+use Rattle.laws.specs.Order.{pick}
+
+-- either way round, with the fact in hand
+pub by-order {ℓ} : {A : Type ℓ} (a b : ℕ) → (a ≤ b → A) → (b < a → A) → A
+by-order {A = A} a b f g = go (decLe a b)
+  where
+    go : Dec (a ≤ b) → A
+    go (yes h) = f h
+    go (no h) = g (lt-of-not-le h)
+
+pub pick-le {ℓ} : {A : Type ℓ} {m n : ℕ} (a b : A) → m ≤ n → pick (leb m n) a b ≡ a
+pick-le {m = m} {n = n} a b h = rw (le-leb m n h)
+
+pub pick-gt {ℓ} : {A : Type ℓ} {m n : ℕ} (a b : A) → n < m → pick (leb m n) a b ≡ b
+pick-gt {m = m} {n = n} a b h = rw (lt-leb m n h)
+
+-- squares are ordered as their sides
+pub lt-of-square : (a b : ℕ) → a * a < b * b → a < b
+lt-of-square a b h = by-order b a (λ l. absurd (not-le-of-lt h (mul-le-mul l l))) (λ l. l)

@@ -1,0 +1,83 @@
+-- Laws of finite sums: comparison, addition, scaling, splitting, summing by blocks, and bounds. Assumes nothing.
+use Prim.Native.Nat.{ℕ, zero, suc, _+_, _*_, _≤_, _<_}
+use mathlib.Core.Path.{_≡_, refl, sym, _∙_, ap}
+use native.Mathlib.Nat.{le-refl, le-step, lt-suc-self, add-le-add, add-assoc, add-zero, add-suc, mul-zero, mul-add, zero-mul, suc-mul, le-of-eq}
+use native.Mathlib.Omega.{arith}
+use Rattle.laws.specs.Sum.{sum}
+
+pub sum-zero : (f : ℕ → ℕ) → sum 0 f ≡ 0
+unfolding sum
+sum-zero f = refl
+
+pub sum-suc : (n : ℕ) (f : ℕ → ℕ) → sum (suc n) f ≡ sum n f + f n
+unfolding sum
+sum-suc n f = refl
+
+-- term by term
+pub sum-le : (n : ℕ) (f g : ℕ → ℕ) → ((k : ℕ) → k < n → f k ≤ g k) → sum n f ≤ sum n g
+unfolding sum
+sum-le zero f g h = le-refl 0
+sum-le (suc n) f g h = add-le-add (sum-le n f g (λ k l. h k (le-step l))) (h n (lt-suc-self n))
+
+pub sum-add : (n : ℕ) (f g : ℕ → ℕ) → sum n (λ k. f k + g k) ≡ sum n f + sum n g
+unfolding sum
+sum-add zero f g = refl
+sum-add (suc n) f g = let h = sum-add n f g in omega arith
+
+pub sum-scale : (n c : ℕ) (f : ℕ → ℕ) → sum n (λ k. c * f k) ≡ c * sum n f
+unfolding sum
+sum-scale zero c f = sym (mul-zero c)
+sum-scale (suc n) c f = rw mul-add (ap (λ (s : ℕ). s + c * f n) (sum-scale n c f))
+
+pub sum-const : (n c : ℕ) → sum n (λ k. c) ≡ n * c
+unfolding sum
+sum-const zero c = sym (zero-mul c)
+sum-const (suc n) c = rw suc-mul (ap (λ (s : ℕ). s + c) (sum-const n c))
+
+-- the first m terms, then n more
+pub sum-split : (m n : ℕ) (f : ℕ → ℕ) → sum (m + n) f ≡ sum m f + sum n (λ k. f (m + k))
+unfolding sum
+sum-split m zero f = rw (add-zero, add-zero)
+sum-split m (suc n) f = rw add-suc (ap (λ (s : ℕ). s + f (m + n)) (sum-split m n f) ∙ add-assoc (sum m f) (sum n (λ k. f (m + k))) (f (m + n)))
+
+-- what rises by at least its term in each step rises by at least the sum, and likewise for at most
+pub sum-below : (n : ℕ) (f g : ℕ → ℕ) → ((k : ℕ) → k < n → g k + f k ≤ g (suc k)) → g 0 + sum n f ≤ g n
+unfolding sum
+sum-below zero f g h = le-of-eq (add-zero (g 0))
+sum-below (suc n) f g h =
+    let i = sum-below n f g (λ k l. h k (le-step l)) in
+    let j = h n (lt-suc-self n) in
+    omega arith
+
+pub sum-above : (n : ℕ) (f g : ℕ → ℕ) → ((k : ℕ) → k < n → g (suc k) ≤ g k + f k) → g n ≤ g 0 + sum n f
+unfolding sum
+sum-above zero f g h = le-of-eq (sym (add-zero (g 0)))
+sum-above (suc n) f g h =
+    let i = sum-above n f g (λ k l. h k (le-step l)) in
+    let j = h n (lt-suc-self n) in
+    omega arith
+
+-- m blocks of n terms each
+pub sum-blocks : (m n : ℕ) (f : ℕ → ℕ) → sum (m * n) f ≡ sum m (λ i. sum n (λ j. f (i * n + j)))
+unfolding sum
+sum-blocks zero n f = rw zero-mul
+sum-blocks (suc m) n f = rw suc-mul (sum-split (m * n) n f ∙ ap (λ (s : ℕ). s + sum n (λ j. f (m * n + j))) (sum-blocks m n f))
+
+-- bounded term by term, alone or block by block
+pub sum-at-least : (n z : ℕ) (f : ℕ → ℕ) → ((k : ℕ) → k < n → z ≤ f k) → n * z ≤ sum n f
+sum-at-least n z f h = rw (← sum-const) (sum-le n (λ k. z) f h)
+
+pub sum-at-most : (n z : ℕ) (f : ℕ → ℕ) → ((k : ℕ) → k < n → f k ≤ z) → sum n f ≤ n * z
+sum-at-most n z f h = rw (← sum-const) (sum-le n f (λ k. z) h)
+
+-- m blocks of n terms, each term of block i at least g i ..
+pub blocks-at-least : (m n : ℕ) (g f : ℕ → ℕ) → ((i j : ℕ) → j < n → g i ≤ f (i * n + j)) → n * sum m g ≤ sum (m * n) f
+blocks-at-least m n g f h =
+    rw (← sum-scale, sum-blocks) (sum-le m (λ i. n * g i) (λ i. sum n (λ j. f (i * n + j)))
+    (λ i l. sum-at-least n (g i) (λ j. f (i * n + j)) (h i)))
+
+-- .. or at most g i
+pub blocks-at-most : (m n : ℕ) (g f : ℕ → ℕ) → ((i j : ℕ) → j < n → f (i * n + j) ≤ g i) → sum (m * n) f ≤ n * sum m g
+blocks-at-most m n g f h =
+    rw (← sum-scale, sum-blocks) (sum-le m (λ i. sum n (λ j. f (i * n + j))) (λ i. n * g i)
+    (λ i l. sum-at-most n (g i) (λ j. f (i * n + j)) (h i)))

@@ -1,0 +1,87 @@
+-- Laws of litres at a height: at each row's height they are that row, between two rows they are on their line, and they never fall.
+-- Assumes nothing.
+use Prim.Native.Nat.{ℕ, zero, suc, _+_, _*_, _-_, _/_, _≤_, _<_}
+use mathlib.Core.Path.{_≡_, refl, sym, _∙_}
+use mathlib.Core.List.{List}
+use native.Mathlib.Nat.{le-refl, le-trans, mul-div-cancel, div-mul-le-self, div-eq-of-lt-le}
+use native.Mathlib.Numerals.{add-one}
+use native.Mathlib.Omega.{arith}
+use borrow.Author.Tests.{eq-eqb, eqb-true}
+use lib.Dec.{eqb}
+use Rattle.laws.specs.OrderLaws.{by-order}
+use Rattle.laws.specs.BoolLaws.{by-test}
+use Rattle.schedule.specs.Rows.{rowCount, rowHeight, rowBelow}
+use Rattle.schedule.specs.RowsLaws.{before-last, count-pos, height-before-last, height-at-last, height-at-most, heights-rise, below-top, below-inside, inside-count, inside-above, inside-below, height-in-steps}
+use Rattle.lookup.specs.Table.{row}
+use Rattle.lookup.specs.TableLaws.{SoundTable}
+use Rattle.lookup.specs.LineLaws.{line-at-lower, line-at-most, line-rises}
+use Rattle.lookup.specs.Litres.{above, litres}
+
+module _ (dh step : ℕ) (table : List ℕ) (s : SoundTable dh step table) where
+  step-pos : 0 < step
+  step-pos = omega (arith, s .step-low)
+
+  gap-pos : (i : ℕ) → i + 1 < rowCount dh step → 0 < rowHeight dh step (i + 1) - rowHeight dh step i
+  gap-pos i l = omega (arith, heights-rise dh step step-pos i l)
+
+  -- at the height of the row below, the row itself
+  at-row : (h i : ℕ) → rowBelow dh step h ≡ i → rowHeight dh step i ≡ h → litres dh step table h ≡ row table i
+  unfolding litres
+  at-row h i e f = rw (e, eq-eqb (rowHeight dh step i) h f)
+
+  pub litres-at-row : (i : ℕ) → i < rowCount dh step → litres dh step table (rowHeight dh step i) ≡ row table i
+  litres-at-row i l =
+      by-order (rowCount dh step) (i + 1)
+      (λ m.
+      let top = height-at-last dh step step-pos i m in
+      at-row (rowHeight dh step i) i (rw top (below-top dh step step-pos ∙ omega arith)) refl)
+      (λ m.
+      let here = height-before-last dh step step-pos i m in
+      at-row (rowHeight dh step i) i
+      (rw here (below-inside dh step step-pos (i * step) (before-last dh step step-pos i m) ∙ mul-div-cancel i step-pos)) refl)
+
+  -- below DH, on the line from the row below
+  pub litres-inside : (h : ℕ) → h < dh → litres dh step table h ≡ above dh step table (h / step) h
+  unfolding litres
+  litres-inside h l =
+      let i = h / step in
+      rw (below-inside dh step step-pos h l)
+      (by-test (eqb (rowHeight dh step i) h)
+      (λ e.
+      let here = eqb-true (rowHeight dh step i) h e in
+      let nothing : h - rowHeight dh step i ≡ 0 = omega arith in
+      rw (e, nothing) (sym (line-at-lower (row table i) (row table (i + 1)) _ (gap-pos i (inside-count dh step step-pos h l)))))
+      (λ e. rw e))
+
+  -- litres never fall: one unit up ..
+  litres-next : (h : ℕ) → h < dh → litres dh step table h ≤ litres dh step table (h + 1)
+  litres-next h l =
+      let i = h / step in
+      let m = inside-count dh step step-pos h l in
+      let low = inside-below dh step step-pos h in
+      let high = inside-above dh step step-pos h l in
+      let rises = s .keepsUp i m in
+      let gap = gap-pos i m in
+      by-order (rowHeight dh step (i + 1)) (h + 1)
+      (λ reached.
+      let upper : rowHeight dh step (i + 1) ≡ h + 1 = omega arith in
+      rw (litres-inside h l, ← upper, litres-at-row (i + 1) m)
+      (line-at-most (row table i) (row table (i + 1)) _ gap rises (h - rowHeight dh step i) (omega arith)))
+      (λ inside.
+      let same : (h + 1) / step ≡ i = div-eq-of-lt-le step (omega (arith, div-mul-le-self h step)) (omega (arith, height-in-steps dh step step-pos (i + 1))) in
+      let further : h + 1 - rowHeight dh step i ≡ h - rowHeight dh step i + 1 = omega arith in
+      rw (litres-inside h l, litres-inside (h + 1) (omega (arith, height-at-most dh step step-pos (i + 1))), same, further)
+      (line-rises (row table i) (row table (i + 1)) _ gap rises (h - rowHeight dh step i) (omega arith)))
+
+  -- .. and so all the way
+  pub litres-mono : (h h′ : ℕ) → h ≤ h′ → h′ ≤ dh → litres dh step table h ≤ litres dh step table h′
+  litres-mono h zero l m = let bottom : h ≡ 0 = omega arith in rw bottom (le-refl _)
+  litres-mono h (suc h′) l m =
+      by-order h h′
+      (λ k. le-trans (litres-mono h h′ k (omega arith)) (rw add-one at (litres-next h′ m)))
+      (λ k. let same : h ≡ suc h′ = omega arith in rw same (le-refl _))
+
+  pub litres-at-top : litres dh step table dh ≡ row table (rowCount dh step - 1)
+  litres-at-top =
+      let last = height-at-last dh step step-pos (rowCount dh step - 1) (omega arith) in
+      rw last at (litres-at-row (rowCount dh step - 1) (omega (arith, count-pos dh step step-pos)))

@@ -1,0 +1,47 @@
+-- Document 01's example survey, byte by byte: kind 0, DH 50,000, L1 100,000, ends 160,221, L2 0, step 10,000, one course (160,221,
+-- 160,221, 100,000, 500), no deadwood. And what it is decoded to, which is a computation. Assumes nothing.
+use Prim.Native.Nat.{ℕ, _/_, _%_}
+use mathlib.Core.Path.{_≡_, refl}
+use mathlib.Core.List.{List, [], _∷_, _++_}
+use Rattle.laws.specs.Fill.{rowsOf}
+use Rattle.laws.specs.Nearest.{nearest}
+use Rattle.measure.specs.Quantity.{diameter}
+use Rattle.refusal.specs.declared.Verdict.the-variants.{Passed}
+use Rattle.refusal.specs.Test.{items}
+use Rattle.heads.specs.declared.kind.HeadKind.the-variants.{Flat}
+use Rattle.heads.specs.Kind.{kindKnown, kindOf}
+use Rattle.heads.specs.Length.{lengthFits}
+use Rattle.survey.specs.declared.decode.Survey.{Survey}
+use Rattle.survey.specs.Word.{word, signedWord}
+use Rattle.survey.specs.Section.{countFits, placed, apart}
+use Rattle.survey.specs.Dimensions.{sumOf, sumsOver, outerDiameter, wall, shellDiameter, headDiameter, diameterFits}
+use Rattle.survey.specs.Tests.{layoutTests, headerTests, courseTests, itemTests, dimensionTests, fileTests}
+use Rattle.survey.specs.Survey.{noItems, decodedBy, decoded}
+
+-- the four bytes of a number, the lowest first
+abbrev bytes : ℕ → List ℕ
+bytes n = n % 256 ∷ n / 256 % 256 ∷ n / 65536 % 256 ∷ n / 16777216 % 256 ∷ []
+
+abbrev concat : List ℕ → List ℕ
+concat [] = []
+concat (n ∷ ns) = bytes n ++ concat ns
+
+abbrev pub sixRows : List ℕ
+sixRows =
+    concat
+    (0 ∷ 50000 ∷ 100000 ∷ 160221 ∷ 160221 ∷ 0 ∷ 0 ∷ 10000 ∷ 1 ∷ 48 ∷ 0 ∷ 0
+    ∷ 160221 ∷ 160221 ∷ 100000 ∷ 500 ∷ [])
+
+-- a tank of 500.00 mm all over
+abbrev pub sixRowsSurvey : Survey
+sixRowsSurvey =
+    record {
+      tank = record { kind = Flat; dh = diameter 50000; d1 = diameter 50000; d2 = diameter 50000; l1 = 100000; l2 = 0; l3 = 0 };
+      step = 10000;
+      deadwood = noItems;
+      count = 0;
+    }
+
+pub six-rows-decoded : decoded sixRows ≡ decodedBy Passed sixRowsSurvey
+unfolding rowsOf nearest items kindKnown kindOf lengthFits word signedWord countFits placed apart sumOf sumsOver outerDiameter wall shellDiameter headDiameter diameterFits layoutTests headerTests courseTests itemTests dimensionTests fileTests decoded
+six-rows-decoded = refl

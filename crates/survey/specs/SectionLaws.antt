@@ -1,0 +1,99 @@
+-- What a format must have to be read, and what a file that passes refusals 1 to 3 promises, as plain facts: its size, its counts, and that
+-- every record of a section lies inside it. Assumes nothing.
+use Prim.Native.Nat.{ℕ, _+_, _^_, _≤_, _<_}
+use mathlib.Core.Path.{_≡_}
+use mathlib.Core.Bool.{true}
+use mathlib.Core.List.{List}
+use native.Mathlib.Nat.{mul-le-mul, mul-le-mul-left, le-of-lt}
+use native.Mathlib.Omega.{arith}
+use lib.Dec.{leb}
+use lib.ListN.{length}
+use borrow.Author.Tests.{leb-true, ne-eqb}
+use Rattle.laws.specs.BoolLaws.{both-pass}
+use Rattle.refusal.specs.declared.Verdict.the-variants.{Passed}
+use Rattle.refusal.specs.Test.{verdict, within}
+use Rattle.refusal.specs.TestLaws.{passed-all, within-pass}
+use Rattle.deadwood.specs.Item.{mostItems}
+use Rattle.survey.specs.declared.format.Format.{Format}
+use Rattle.survey.specs.declared.section.Section.{Section}
+use Rattle.survey.specs.declared.section.Records.{Records}
+use Rattle.survey.specs.declared.section.Records.the-variants.{Courses, Deadwood}
+use Rattle.survey.specs.Layout.{headerEnd, courseEnd, itemEnd}
+use Rattle.survey.specs.Limits.{largestFile, mostCourses}
+use Rattle.survey.specs.Section.{courses, deadwood, recordAt, endOf, countFits, placed}
+use Rattle.survey.specs.Tests.{layoutTests}
+
+-- a bound on the length of a record
+abbrev pub longestRecord : ℕ
+longestRecord = 64
+
+-- the words of document 01 lie inside header and records, and records are short
+pub record Readable (f : Format) : Type 0 where
+  pub header : headerEnd ≤ f .header
+  pub course : courseEnd ≤ f .course
+  pub course-short : f .course ≤ longestRecord
+  pub deadwood : itemEnd ≤ f .deadwood
+  pub deadwood-short : f .deadwood ≤ longestRecord
+
+-- a section of words and a short record: no sum over it wraps
+pub record Small (x : Section) : Type 0 where
+  pub count : x .count < 2 ^ 32
+  pub offset : x .offset < 2 ^ 32
+  pub size : x .size ≤ longestRecord
+
+pub small-end : (x : Section) → Small x → endOf x < 2 ^ 63
+small-end x small = omega (arith, mul-le-mul (small .size) (le-of-lt (small .count)))
+
+-- the words of a record of a kind
+abbrev pub recordLong : Records → ℕ
+recordLong Courses = courseEnd
+recordLong Deadwood = itemEnd
+
+-- a section whose records lie inside a file that has its header
+pub record Inside (s : List ℕ) (x : Section) : Type 0 where
+  pub header : headerEnd ≤ length s
+  pub file : length s ≤ largestFile
+  pub long : recordLong (x .records) ≤ x .size
+  pub inside : (i : ℕ) → i < x .count → recordAt x i + x .size ≤ length s
+
+-- a section that is well placed has each of its records inside the file
+placed-inside : (header fileSize : ℕ) (x : Section) → placed header fileSize x ≡ true → (i : ℕ) → i < x .count → recordAt x i + x .size ≤ fileSize
+unfolding placed
+placed-inside header fileSize x h i l =
+    let one-more : i + 1 ≤ x .count = omega arith in
+    let some = ne-eqb (x .count) 0 (λ e. omega arith) in
+    let halves = both-pass (leb header (x .offset)) (leb (endOf x) fileSize) (rw some at h) in
+    omega (arith, mul-le-mul-left (x .size) one-more, leb-true (endOf x) fileSize (halves .1))
+
+pub record Placed (f : Format) (s : List ℕ) : Type 0 where
+  pub header : f .header ≤ length s
+  pub courses-inside : Inside s (courses f s)
+  pub deadwood-inside : Inside s (deadwood f s)
+  pub someCourse : 1 ≤ courses f s .count
+  pub fewCourses : courses f s .count ≤ mostCourses
+  pub fewItems : deadwood f s .count ≤ mostItems
+
+pub placed-file : (f : Format) (s : List ℕ) → Readable f → within (f .header) (length s) largestFile ≡ true → verdict (layoutTests f s) ≡ Passed → Placed f s
+unfolding layoutTests countFits
+placed-file f s readable size passed =
+    let file = within-pass (f .header) (length s) largestFile size in
+    let pass = passed-all (layoutTests f s) passed in
+    let count = within-pass 1 (courses f s .count) mostCourses (pass .0) in
+    record {
+      header = file .0;
+      courses-inside = record {
+        header = omega (arith, readable .header, file .0);
+        file = file .1;
+        long = readable .course;
+        inside = placed-inside (f .header) (length s) (courses f s) (pass .1 .1 .0);
+      };
+      deadwood-inside = record {
+        header = omega (arith, readable .header, file .0);
+        file = file .1;
+        long = readable .deadwood;
+        inside = placed-inside (f .header) (length s) (deadwood f s) (pass .1 .1 .1 .1 .0);
+      };
+      someCourse = count .0;
+      fewCourses = count .1;
+      fewItems = leb-true (deadwood f s .count) mostItems (pass .1 .0);
+    }

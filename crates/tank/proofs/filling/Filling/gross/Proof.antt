@@ -1,0 +1,95 @@
+-- `tank::filling::Filling::gross` meets its contract: the three parts' volumes, each within its bound. Assumes nothing.
+use mathlib.Core.Path.{_≡_, _∙_, ap, ap₂}
+use Prim.Native.Nat.{ℕ, _+_, _*_, _^_, _≤_, _<_}
+use native.Mathlib.Omega.{arith}
+use borrow.Author.Needs.{needs}
+use Rattle.laws.specs.Nearest.{nearest}
+use Rattle.measure.specs.Diameter.{largest}
+use Rattle.measure.specs.Quantity.{diameterUnits, shellUnits, dipUnits, cubicPerV}
+use Rattle.measure.specs.CorrectionLaws.{corrected-at-most}
+use Rattle.circle.specs.Circle.{doubledArea}
+use Rattle.heads.specs.Volume.{headsVolume}
+use Rattle.tank.specs.Limits.{longestShell}
+use Rattle.tank.specs.Part.{cylinderVolume}
+use Rattle.tank.specs.Tank.{grossAt}
+use Rattle.tank.specs.CylinderLaws.{cylinder-product}
+use Rattle.tank.specs.TankLaws.{shellAt, headsAt, mostGross, gross-by-parts, gross-small}
+use Rattle.tank.proofs.filling.Filling.gross.Statement.{statement}
+use Rattle.tank.proofs.filling.Filling.gross.Tie as tie
+
+-- a cylinder by the area that the code has of it: the product fits, and rounded it is the volume
+module _ (d h l : ℕ) {area : ℕ} (same : area ≡ doubledArea d h) where
+  product-fits : h ≤ d → d ≤ largest → l ≤ longestShell → area * l < 2 ^ 63
+  product-fits h-high d-high l-high = rw same (omega (arith, cylinder-product d l h h-high d-high l-high))
+
+  rounded : {r : ℕ} → r ≡ nearest (area * l) (2 * cubicPerV) → r ≡ cylinderVolume d l h
+  unfolding cylinderVolume
+  rounded e = e ∙ ap (λ (n : ℕ). nearest (n * l) (2 * cubicPerV)) same
+
+-- the areas of the tank's two circles
+abbrev shellArea : tie.Start → ℕ
+shellArea s = doubledArea (diameterUnits (s .args .t .d1)) (shellAt (s .args .t) (dipUnits (s .args .h)))
+
+abbrev flangeArea : tie.Start → ℕ
+flangeArea s = doubledArea (diameterUnits (s .args .t .d2)) (headsAt (s .args .t) (dipUnits (s .args .h)))
+
+shell-area : (c : tie.After-area) → c .area .result ≡ shellArea (c .before .before .before .before .before)
+shell-area c = c .area .ensures ∙ ap (λ f. f .shell .area) (c .before .before .before .before .before .pre .1)
+
+flange-area : (c : tie.After-area2)
+    → c .area2 .result ≡ flangeArea (c .before .before .before .before .before .before .before .before)
+flange-area c =
+    c .area2 .ensures ∙ ap (λ f. f .flanges .area) (c .before .before .before .before .before .before .before .before .pre .1)
+
+cylinder-volume-requires : tie.Need-cylinder-volume-requires
+cylinder-volume-requires c κs =
+    let start = c .before .before .before .before .before .before in
+    let limits = start .pre .0 in
+    product-fits _ _ (start .args .t .l1) (shell-area (c .before)) (corrected-at-most _ _ _) (limits .d1-high) (limits .l1-high)
+
+cylinder-volume-requires-2 : tie.Need-cylinder-volume-requires-2
+cylinder-volume-requires-2 c κs =
+    let start = c .before .before .before .before .before .before .before .before .before in
+    let limits = start .pre .0 in
+    let flanges : 2 * start .args .t .l2 ≤ longestShell = omega (arith, limits .l2-high) in
+    product-fits _ _ (2 * start .args .t .l2) (flange-area (c .before)) (corrected-at-most _ _ _) (limits .d2-high) flanges
+
+heads-volume-requires : tie.Need-heads-volume-requires
+heads-volume-requires c κs =
+    let limits = c .before .before .before .before .before .before .before .before .before .before .before .pre .0 in
+    (rw (c .corrected .ensures) (corrected-at-most _ _ _), omega (arith, limits .d2-low), limits .d2-high, limits .l3-high)
+
+-- at the end: the parts' volumes add up to the definition's gross, which is small
+module _ (c : tie.After-heads-volume) where
+  abbrev start : tie.Start
+  start = c .before .before .before .before .before .before .before .before .before .before .before .before
+
+  abbrev of-shell : tie.After-cylinder-volume
+  of-shell = c .before .before .before .before .before
+
+  abbrev of-flanges : tie.After-cylinder-volume2
+  of-flanges = c .before .before
+
+  abbrev total : ℕ
+  total = of-shell .cylinder-volume .result + of-flanges .cylinder-volume2 .result + c .heads-volume .result
+
+  returns : total ≡ grossAt (start .args .t) (dipUnits (start .args .h))
+  returns =
+      let t = start .args .t in
+      rw (gross-by-parts t (dipUnits (start .args .h)))
+      (ap₂ _+_
+      (ap₂ _+_
+      (rounded _ _ (t .l1) (shell-area (of-shell .before .before)) (of-shell .cylinder-volume .ensures))
+      (rounded _ _ (2 * t .l2) (flange-area (of-flanges .before .before)) (of-flanges .cylinder-volume2 .ensures)))
+      (c .heads-volume .ensures
+      ∙ ap (λ x. headsVolume (t .kind) (diameterUnits (t .d2)) (t .l3) (shellUnits x)) (c .before .corrected .ensures)))
+
+  fits : total ≤ mostGross
+  fits = rw returns (gross-small (start .args .t) (dipUnits (start .args .h)) (start .pre .0))
+
+pub gross-spec : {M : Type 1} → statement M
+gross-spec =
+    tie.close
+    (tie.spec (λ c κs. search needs) (λ c. search needs) cylinder-volume-requires (λ c κs. search needs)
+    (λ c. search needs) (λ c. search needs) cylinder-volume-requires-2 (λ c κs. search needs) heads-volume-requires
+    (λ c. omega (arith, fits c)) (λ c. omega (arith, fits c)) returns)

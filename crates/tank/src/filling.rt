@@ -1,0 +1,62 @@
+// How far a tank is filled: a walk up the shell's circle and one up the flanges'. Each goes on from row to row, so that one
+// walk up each serves the whole table.
+ghost use mathlib.Core.Path.{_≡_};
+ghost use Prim.Native.Nat.{ℕ};
+ghost use Rattle.measure.specs.Quantity.{dipUnits};
+ghost use Rattle.tank.specs.declared.tank.Tank.{Tank};
+ghost use Rattle.tank.specs.Tank.{grossAt};
+ghost use Rattle.tank.specs.TankLaws.{TankLimits};
+ghost use Rattle.tank.specs.FillingLaws.{NotPast, fillingAt};
+use crate::cylinder::cylinder_volume;
+use crate::tank::Tank;
+use circle::walk::Walk;
+use heads::volume::heads_volume;
+use measure::dip_height::DipHeight;
+use measure::shell_height::ShellHeight;
+
+pub struct Filling {
+    pub shell: Walk,
+    pub flanges: Walk,
+}
+
+impl Filling {
+    // Nothing is filled yet.
+    pub fn empty() -> Filling
+        ensures { λ r. ⌜ ((t : Tank) (h : ℕ) → NotPast t h r) ⌝ }
+    {
+        let shell = Walk::start();
+        let flanges = Walk::start();
+        Filling { shell, flanges }
+    }
+
+    // On to a dip height that the filling has not passed.
+    pub fn on_to(self, t: Tank, h: DipHeight) -> Filling
+        requires { ⌜ TankLimits t × NotPast t (dipUnits h) self ⌝ }
+        ensures { λ r. ⌜ r ≡ fillingAt t (dipUnits h) ⌝ }
+    {
+        let d1 = t.d1;
+        let d2 = t.d2;
+        let dh = t.dh;
+        let shell = self.shell;
+        let flanges = self.flanges;
+        let shell = shell.on_to(d1, ShellHeight::corrected(d1, dh, h));
+        let flanges = flanges.on_to(d2, ShellHeight::corrected(d2, dh, h));
+        Filling { shell, flanges }
+    }
+
+    // The gross volume of a tank that is filled to a dip height.
+    pub fn gross(self, t: Tank, h: DipHeight) -> u64
+        requires { ⌜ TankLimits t × (self ≡ fillingAt t (dipUnits h)) ⌝ }
+        ensures { λ r. ⌜ r ≡ grossAt t (dipUnits h) ⌝ }
+    {
+        let shell = self.shell;
+        let flanges = self.flanges;
+        let kind = t.kind;
+        let d2 = t.d2;
+        let dh = t.dh;
+        let of_shell = cylinder_volume(shell.area(), t.l1 as u64);
+        let of_flanges = cylinder_volume(flanges.area(), 2 * (t.l2 as u64));
+        let of_heads = heads_volume(kind, d2, t.l3, ShellHeight::corrected(d2, dh, h));
+        of_shell + of_flanges + of_heads
+    }
+}
