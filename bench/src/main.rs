@@ -1,5 +1,5 @@
 //! How long tables take, by the proved library and by the reference. Nothing is
-//! held to a time.
+//! held to a time. With the word `survey` it writes the largest survey instead.
 
 mod tanks;
 mod timing;
@@ -8,10 +8,16 @@ use compare::calls::{self, TableAnswer};
 use reference::fill_table;
 use reference::rows::MOST_ROWS;
 use std::hint::black_box;
+use std::io::Write;
 use std::time::Duration;
 use timing::{median, milliseconds, nanoseconds_each, RUNS};
 
 fn main() {
+    if std::env::args().nth(1).as_deref() == Some("survey") {
+        let survey = tanks::largest(500_000, 100);
+        std::io::stdout().write_all(&survey).expect("standard output is closed");
+        return;
+    }
     println!("Every time is the median of {RUNS} runs; both programs are optimised, the");
     println!("reference with overflow checks. The library walks up the shell once, D1");
     println!("levels, and up the flanges once, D2 levels, and stops at each row. The");

@@ -5,16 +5,6 @@ use Prim.Native.Nat.{ℕ, _+_, _*_, min, max}
 use mathlib.Core.Bool.{Bool, _&&_}
 use lib.Dec.{leb}
 use Rattle.laws.specs.Order.{pick}
-use Rattle.laws.specs.Root.{root}
-use Rattle.circle.specs.Circle.{chordSquare}
-
--- the root rounded up: the least whole number whose square is at least n
-unfoldable pub rootUp : ℕ → ℕ
-rootUp n = pick (leb n (root n * root n)) (root n) (root n + 1)
-
--- the width at a level, rounded up to whole N-ths of u; rounded down it is the chord
-unfoldable pub chordUp : ℕ → ℕ → ℕ
-chordUp d y = rootUp (chordSquare d y)
 
 -- slab i contains the level D/2
 unfoldable pub containsMiddle : (d h n i : ℕ) → Bool

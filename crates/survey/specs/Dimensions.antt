@@ -9,10 +9,10 @@ use Rattle.laws.specs.Order.{pick}
 use Rattle.measure.specs.Diameter.{smallest, largest}
 use Rattle.measure.specs.Pi.{piOver, piUnder}
 use Rattle.measure.specs.Quantity.{diameter}
-use Rattle.refusal.specs.Test.{within}
+use Rattle.refusal.specs.Test.{refusal, within}
 use Rattle.survey.specs.declared.dimensions.Sums.{Sums}
 use Rattle.survey.specs.declared.dimensions.Dimensions.{Dimensions}
-use Rattle.survey.specs.declared.dimensions.Dimensions.the-variants.{Found, Unfit}
+use Rattle.survey.specs.declared.dimensions.Dimensions.the-variants.{Found, Refused}
 use Rattle.survey.specs.declared.format.Format.{Format}
 use Rattle.survey.specs.declared.section.Section.{Section}
 use Rattle.survey.specs.Word.{word}
@@ -77,6 +77,10 @@ d2 f s = headDiameter (sumsOf f s) (word s leftAt) (word s rightAt)
 unfoldable pub diameterFits : (d dh : ℕ) → Bool
 diameterFits d dh = (leb d (dh + farthest) && leb dh (d + farthest)) && within smallest d largest
 
--- DH, D1 and D2 where both fit
+-- refusal 7 is not given
+abbrev pub diametersFit : (dh d1 d2 : ℕ) → Bool
+diametersFit dh d1 d2 = diameterFits d1 dh && diameterFits d2 dh
+
+-- DH, D1 and D2 where both fit, else refusal 7
 abbrev pub dimensions : (dh d1 d2 : ℕ) → Dimensions
-dimensions dh d1 d2 = pick (diameterFits d1 dh && diameterFits d2 dh) (Found (diameter dh) (diameter d1) (diameter d2)) Unfit
+dimensions dh d1 d2 = pick (diametersFit dh d1 d2) (Found (diameter dh) (diameter d1) (diameter d2)) (Refused (refusal 7 0))

@@ -7,9 +7,11 @@ pub mod Section
 pub mod Item
 pub mod Dimensions
 pub mod Tests
+pub mod Judged
 pub mod Survey
 pub mod SectionLaws
 pub mod CourseLaws
+pub mod JudgedLaws
 pub mod SurveyLaws
 pub mod NumberedLaws
 pub mod ExampleLaws

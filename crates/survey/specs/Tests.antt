@@ -1,7 +1,6 @@
 -- Refusals 1 to 7 as one ordered list of tests, each with its number and its place: a later request inserts a line.
 -- Assumes nothing.
 use Prim.Native.Nat.{ℕ, _+_}
-use mathlib.Core.Bool.{_&&_}
 use mathlib.Core.List.{List, [], _∷_, _++_}
 use lib.Dec.{eqb}
 use lib.ListN.{length}
@@ -21,7 +20,7 @@ use Rattle.survey.specs.Layout.{kindAt, dhAt, l1At, leftAt, rightAt, l2A
 use Rattle.survey.specs.Limits.{largestFile, shortestCircumference, longestCircumference, shortestShell, shortestCourse, thinnest, thickest}
 use Rattle.survey.specs.Section.{sections, recordAt, countFits, placed, apart}
 use Rattle.survey.specs.Item.{itemFrom}
-use Rattle.survey.specs.Dimensions.{sumsOf, d1, d2, diameterFits}
+use Rattle.survey.specs.Dimensions.{sumsOf, d1, d2, diametersFit}
 
 -- refusal 2: every section's count
 abbrev pub countTests : List Section → List Test
@@ -96,7 +95,7 @@ numberTests f s = headerTests s ++ sectionsTests s (sections f s)
 unfoldable pub dimensionTests : Format → List ℕ → List Test
 dimensionTests f s =
     test 6 0 (eqb (sumsOf f s .lengths) (word s l1At))
-    ∷ test 7 0 (diameterFits (d1 f s) (word s dhAt) && diameterFits (d2 f s) (word s dhAt))
+    ∷ test 7 0 (diametersFit (word s dhAt) (d1 f s) (d2 f s))
     ∷ []
 
 -- all of them

@@ -1,26 +1,20 @@
 // The survey that a file holds, or the refusal of any other. A file is read here and nowhere else.
 ghost use mathlib.Core.Path.{_≡_};
 ghost use Rattle.refusal.specs.declared.Verdict.{Verdict};
-ghost use Rattle.refusal.specs.Test.{refusal, verdict};
 ghost use Rattle.measure.specs.Quantity.{diameter, diameterUnits};
 ghost use Rattle.survey.specs.Word.{word};
 ghost use Rattle.survey.specs.Layout.{dhAt};
 ghost use Rattle.survey.specs.Section.{deadwood};
 ghost use Rattle.survey.specs.SectionLaws.{Readable, Placed};
-ghost use Rattle.survey.specs.Tests.{dimensionTests};
-ghost use Rattle.survey.specs.Survey.{filledUp, itemsOf, surveyWith, surveyOf, noSurvey, decodedBy, decodedAs, decoded};
-ghost use Rattle.survey.specs.SurveyLaws.{NumbersFit, WithinLimits};
+ghost use Rattle.survey.specs.Survey.{filledUp, itemsOf, surveyWith, noSurvey, decodedBy, decodedAs, decoded};
+ghost use Rattle.survey.specs.SurveyLaws.{WithinLimits};
 use crate::dimensions::Dimensions;
-use crate::dimensions::diameters;
-use crate::dimensions::sums_over;
 use crate::format::Format;
+use crate::judge::judged;
 use crate::layout;
-use crate::limits::is_within;
+use crate::limits;
 use crate::numbers::item_from;
-use crate::numbers::numbers_tested;
-use crate::section::courses;
 use crate::section::deadwood;
-use crate::section::layout_tested;
 use crate::section::record_at;
 use crate::word::word;
 use deadwood::item::Deadwood;
@@ -31,8 +25,8 @@ use refusal::Refusal;
 use refusal::Verdict;
 use tank::tank::Tank;
 
-// The largest file, in bytes.
-pub const LARGEST_FILE: usize = 65_536;
+// The size in bytes past which every file is refused: what a caller reads of one.
+pub const LARGEST_FILE: usize = limits::LARGEST_FILE;
 
 // All that a table is made of. Behind the deadwood items stand items that take nothing.
 pub struct Survey {
@@ -49,12 +43,12 @@ pub struct Decoded {
 }
 
 // The refusal of a file.
-fn refused(number: u32, place: u32) -> Decoded
-    ensures { λ r. ⌜ r ≡ decodedBy (Verdict.Refused (refusal number place)) noSurvey ⌝ }
+fn refused(refusal: Refusal) -> Decoded
+    ensures { λ r. ⌜ r ≡ decodedBy (Verdict.Refused refusal) noSurvey ⌝ }
 {
     let d = Diameter::smallest();
     Decoded {
-        verdict: Verdict::Refused(Refusal { number, place }),
+        verdict: Verdict::Refused(refusal),
         survey: Survey {
             tank: Tank {
                 kind: HeadKind::Flat,
@@ -88,10 +82,10 @@ fn items(f: Format, s: &[u8]) -> [Deadwood; MOST_ITEMS]
     list
 }
 
-// The survey of a file whose numbers fit, with its diameters.
-fn survey_with(f: Format, s: &[u8], dh: Diameter, d1: Diameter, d2: Diameter) -> Survey
+// A file that is not refused: its survey, with its diameters.
+fn accepted(f: Format, s: &[u8], dh: Diameter, d1: Diameter, d2: Diameter) -> Decoded
     requires { ⌜ Readable f × Placed f (now s) × (dh ≡ diameter (word (now s) dhAt)) ⌝ }
-    ensures { λ r. ⌜ r ≡ surveyWith f (now (s .entry)) (diameterUnits d1) (diameterUnits d2) ⌝ }
+    ensures { λ r. ⌜ r ≡ decodedBy Verdict.Passed (surveyWith f (now (s .entry)) (diameterUnits d1) (diameterUnits d2)) ⌝ }
 {
     let kind = HeadKind::of(word(s, layout::KIND));
     let tank = Tank {
@@ -104,34 +98,13 @@ fn survey_with(f: Format, s: &[u8], dh: Diameter, d1: Diameter, d2: Diameter) ->
         l3: word(s, layout::L3),
     };
     let x = deadwood(f, s);
-    Survey {
-        tank,
-        step: word(s, layout::STEP),
-        deadwood: items(f, s),
-        count: x.count,
-    }
-}
-
-// A file that passes refusals 1 to 5: refusals 6 and 7, and its survey.
-fn measured(f: Format, s: &[u8]) -> Decoded
-    requires { ⌜ Readable f × NumbersFit f (now s) ⌝ }
-    ensures { λ r. ⌜ r ≡ decodedBy (verdict (dimensionTests f (now (s .entry)))) (surveyOf f (now (s .entry))) ⌝ }
-{
-    let t = sums_over(courses(f, s), s);
-    if t.lengths != word(s, layout::L1) as u64 {
-        return refused(6, 0);
-    }
-    let found = diameters(
-        t,
-        word(s, layout::LEFT),
-        word(s, layout::RIGHT),
-        word(s, layout::DH),
-    );
-    match found {
-        Dimensions::Unfit => refused(7, 0),
-        Dimensions::Found(dh, d1, d2) => Decoded {
-            verdict: Verdict::Passed,
-            survey: survey_with(f, s, dh, d1, d2),
+    Decoded {
+        verdict: Verdict::Passed,
+        survey: Survey {
+            tank,
+            step: word(s, layout::STEP),
+            deadwood: items(f, s),
+            count: x.count,
         },
     }
 }
@@ -141,18 +114,11 @@ fn decode_as(f: Format, s: &[u8]) -> Decoded
     requires { ⌜ Readable f ⌝ }
     ensures { λ r. ⌜ r ≡ decodedAs f (now (s .entry)) ⌝ }
 {
-    if !is_within(f.header as u64, s.len() as u64, LARGEST_FILE as u64) {
-        return refused(1, 0);
+    let judgement = judged(f, s);
+    match judgement {
+        Dimensions::Refused(r) => refused(r),
+        Dimensions::Found(dh, d1, d2) => accepted(f, s, dh, d1, d2),
     }
-    let placed = layout_tested(f, s);
-    if let Verdict::Refused(r) = placed {
-        return refused(r.number, r.place);
-    }
-    let numbers = numbers_tested(f, s);
-    if let Verdict::Refused(r) = numbers {
-        return refused(r.number, r.place);
-    }
-    measured(f, s)
 }
 
 // A file of any bytes, of any length. A survey that is not refused is within its limits.

@@ -21,6 +21,7 @@ use measure::diameter::Diameter;
 use measure::diameter::Measured;
 use measure::pi::PI_OVER;
 use measure::pi::PI_UNDER;
+use refusal::Refusal;
 
 // What the dimensions are made of, summed over courses.
 pub struct Sums {
@@ -31,10 +32,10 @@ pub struct Sums {
     pub count: u64,
 }
 
-// DH, D1 and D2; or that refusal 7 applies.
+// DH, D1 and D2 of a file; or its refusal.
 pub enum Dimensions {
     Found(Diameter, Diameter, Diameter),
-    Unfit,
+    Refused(Refusal),
 }
 
 // What the course at a byte adds.
@@ -128,17 +129,21 @@ pub fn diameters(t: Sums, left: u32, right: u32, dh: u32) -> Dimensions
     requires { ⌜ SumsSmall t × (1 ≤ t .lengths) × (1 ≤ t .count) × (smallest ≤ dh) × (dh ≤ largest) ⌝ }
     ensures { λ r. ⌜ r ≡ dimensions dh (shellDiameter t) (headDiameter t left right) ⌝ }
 {
+    let unfit = Dimensions::Refused(Refusal {
+        number: 7,
+        place: 0,
+    });
     let wall = wall(t);
     let courses = outer_diameter(t.readings, t.lengths);
     let ends = outer_diameter(left as u64 + right as u64, 1);
     let Measured::Within(d1) = fitting(inside(courses, wall), dh) else {
-        return Dimensions::Unfit;
+        return unfit;
     };
     let Measured::Within(d2) = fitting(inside(ends, wall), dh) else {
-        return Dimensions::Unfit;
+        return unfit;
     };
     let Measured::Within(dip_point) = Diameter::of(dh as u64) else {
-        return Dimensions::Unfit;
+        return unfit;
     };
     Dimensions::Found(dip_point, d1, d2)
 }

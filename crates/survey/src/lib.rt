@@ -3,6 +3,7 @@
 pub mod decode;
 mod dimensions;
 mod format;
+mod judge;
 mod layout;
 mod limits;
 mod numbers;

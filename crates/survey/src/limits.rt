@@ -9,6 +9,9 @@ use crate::word::word;
 use refusal::Verdict;
 use refusal::next_test;
 
+// A file's size in bytes.
+pub const LARGEST_FILE: usize = 65_536;
+
 pub const MOST_COURSES: usize = 40;
 
 // An outer circumference, wherever it was taken.

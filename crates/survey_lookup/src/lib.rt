@@ -1,9 +1,9 @@
-// Both lookups straight from a survey file: it is decoded, its table is made, and then looked up in.
+// A survey file's own table, made in memory that goes with the answer, and both lookups straight from a survey file.
 ghost use mathlib.Core.Path.{_≡_};
 ghost use Rattle.measure.specs.Quantity.{dipUnits, volumeUnits};
 ghost use Rattle.survey.specs.Survey.{decoded};
 ghost use Rattle.survey_lookup.specs.Answer.{litresFrom, heightFrom};
-ghost use Rattle.survey_lookup.specs.TabledLaws.{Tabulated};
+ghost use Rattle.survey_lookup.specs.Tabled.{tabled};
 use lookup::height::HeightAnswer;
 use lookup::height::height_for;
 use lookup::litres::LitresAnswer;
@@ -16,17 +16,18 @@ use survey::decode::decode;
 use table::make::Made;
 use table::make::tabulate;
 
-// A survey's table with what a lookup takes beside it, or the refusal.
-struct Tabled {
-    verdict: Verdict,
-    dh: u32,
-    step: u32,
-    rows: usize,
-    table: [u32; MOST_ROWS],
+// A survey's table with what a lookup takes beside it; or the refusal, with all numbers 0.
+pub struct Tabled {
+    pub verdict: Verdict,
+    pub dh: u32,
+    pub step: u32,
+    pub rows: usize,
+    pub table: [u32; MOST_ROWS],
 }
 
-fn table_of(survey: &[u8]) -> Tabled
-    ensures { λ r. ⌜ Tabulated (decoded (now (survey .entry))) r ⌝ }
+// The table of a survey file.
+pub fn table_of(survey: &[u8]) -> Tabled
+    ensures { λ r. ⌜ r ≡ tabled (decoded (now (survey .entry))) ⌝ }
 {
     let file = decode(survey);
     let read = file.survey;

@@ -8,9 +8,9 @@ use Rattle.laws.specs.Sum.{sum}
 use Rattle.laws.specs.SumLaws.{blocks-at-least, blocks-at-most}
 use Rattle.laws.specs.NearestLaws.{nearest-above, nearest-below}
 use Rattle.measure.specs.Quantity.{cubicPerV}
-use Rattle.circle.specs.Circle.{chord, doubledArea}
-use Rattle.slabs.specs.Slab.{chordUp, smallerFace, largerFace}
-use Rattle.slabs.specs.FaceLaws.{fitting-le-chord, chord-le-covering}
+use Rattle.circle.specs.Circle.{chord, doubledArea, chordUp}
+use Rattle.slabs.specs.Slab.{smallerFace, largerFace}
+use Rattle.tank.specs.WidthLaws.{fitting-le-chord, chord-le-covering}
 use Rattle.slabs.specs.WithinLaws.{Within}
 use Rattle.tank.specs.Part.{cylinderVolume}
 use Rattle.tank.specs.Slabs.{cylinderFitting, cylinderCovering}

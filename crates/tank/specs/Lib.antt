@@ -12,5 +12,6 @@ pub mod FillingLaws
 pub mod TurnLaws
 pub mod CellLaws
 pub mod LevelLaws
+pub mod WidthLaws
 pub mod CylinderSlabsLaws
 pub mod Condition3Laws

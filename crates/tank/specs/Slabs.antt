@@ -4,9 +4,9 @@ use Prim.Native.Nat.{ℕ, suc, _+_, _*_}
 use mathlib.Core.List.{List, [], _∷_}
 use Rattle.laws.specs.Sum.{sum}
 use Rattle.measure.specs.Quantity.{cubicPerV}
-use Rattle.circle.specs.Circle.{chord}
+use Rattle.circle.specs.Circle.{chord, chordUp}
 use Rattle.slabs.specs.Fraction.{Fraction, whole, _⊕_}
-use Rattle.slabs.specs.Slab.{chordUp, smallerFace, largerFace}
+use Rattle.slabs.specs.Slab.{smallerFace, largerFace}
 use Rattle.heads.specs.Slabs.{headsFitting, headsCovering}
 use Rattle.tank.specs.Part.{Shape, cylinder, headPair, Part, Filled}
 

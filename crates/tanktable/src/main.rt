@@ -6,12 +6,10 @@ ghost use Rattle.schedule.specs.Rows.{rowCount, smallestStep, mostRows};
 ghost use Rattle.text.specs.LineText.{textOf};
 use libc::STDIN_FILENO;
 use libc::STDOUT_FILENO;
-use schedule::MOST_ROWS;
+use refusal::Verdict;
 use schedule::row_height;
 use survey::decode::LARGEST_FILE;
-use survey::decode::decode;
-use table::make::Made;
-use table::make::tabulate;
+use survey_lookup::table_of;
 use text::line::Line;
 use text::line::refused_line;
 use text::line::row_line;
@@ -38,19 +36,16 @@ fn write_rows(dh: u32, step: u32, rows: usize, table: &[u32])
 
 fn main() {
     // one byte more than a survey may have tells that it is too long
-    let mut bytes = [0u8; LARGEST_FILE + 1];
-    let n = io::read_full(STDIN_FILENO, &mut bytes);
-    let file = decode(&bytes[..n]);
-    let survey = file.survey;
-    let tank = survey.tank;
-    let dh = tank.dh;
-    let mut table = [0u32; MOST_ROWS];
-    let made = tabulate(file, &mut table);
-    match made {
-        Made::Refused(r) => write_line(refused_line(r.number, r.place)),
-        Made::Table(_, _, rows) => {
-            write_line(rows_line(rows));
-            write_rows(dh.units(), survey.step, rows as usize, &table);
+    let mut file = [0u8; LARGEST_FILE + 1];
+    let n = io::read_full(STDIN_FILENO, &mut file);
+    let t = table_of(&file[..n]);
+    let verdict = t.verdict;
+    let table = t.table;
+    match verdict {
+        Verdict::Refused(r) => write_line(refused_line(r.number, r.place)),
+        Verdict::Passed => {
+            write_line(rows_line(t.rows as u32));
+            write_rows(t.dh, t.step, t.rows, &table);
         }
     }
 }

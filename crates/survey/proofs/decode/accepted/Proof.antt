@@ -1,8 +1,8 @@
--- `survey::decode::survey_with` meets its contract: its words are the definition's. Assumes nothing.
+-- `survey::decode::accepted` meets its contract: its words are the definition's. Assumes nothing.
 use mathlib.Core.Path.{ap}
 use borrow.Author.Needs.{needs}
-use Rattle.survey.proofs.decode.survey_with.Statement.{statement}
-use Rattle.survey.proofs.decode.survey_with.Tie as tie
+use Rattle.survey.proofs.decode.accepted.Statement.{statement}
+use Rattle.survey.proofs.decode.accepted.Tie as tie
 
 returns : tie.Need-returns
 returns c =
@@ -18,8 +18,8 @@ returns c =
       ap (λ x. x .count) (c .before .before .deadwood .ensures .0),
     )
 
-pub survey-with-spec : {M : Type 1} → statement M
-survey-with-spec =
+pub accepted-spec : {M : Type 1} → statement M
+accepted-spec =
     tie.close
     (tie.spec (λ c κs. search needs) (λ c κs. search needs) (λ c κs. search needs) (λ c κs. search needs)
     (λ c κs. search needs) (λ c κs. search needs) (λ c κs. search needs) (λ c κs. search needs) returns)

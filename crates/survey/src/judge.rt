@@ -1,0 +1,62 @@
+// Refusals 1 to 7 in their order, and the diameters of a file that none of them is given to.
+ghost use mathlib.Core.Path.{_≡_};
+ghost use Rattle.refusal.specs.Test.{verdict};
+ghost use Rattle.survey.specs.SectionLaws.{Readable};
+ghost use Rattle.survey.specs.Tests.{dimensionTests, fileTests};
+ghost use Rattle.survey.specs.Judged.{judgedBy};
+ghost use Rattle.survey.specs.SurveyLaws.{NumbersFit};
+use crate::dimensions::Dimensions;
+use crate::dimensions::diameters;
+use crate::dimensions::sums_over;
+use crate::format::Format;
+use crate::layout;
+use crate::limits::LARGEST_FILE;
+use crate::limits::is_within;
+use crate::numbers::numbers_tested;
+use crate::section::courses;
+use crate::section::layout_tested;
+use crate::word::word;
+use refusal::Refusal;
+use refusal::Verdict;
+
+// A file that passes refusals 1 to 5: refusals 6 and 7.
+fn measured(f: Format, s: &[u8]) -> Dimensions
+    requires { ⌜ Readable f × NumbersFit f (now s) ⌝ }
+    ensures { λ r. ⌜ r ≡ judgedBy f (now (s .entry)) (verdict (dimensionTests f (now (s .entry)))) ⌝ }
+{
+    let t = sums_over(courses(f, s), s);
+    if t.lengths != word(s, layout::L1) as u64 {
+        return Dimensions::Refused(Refusal {
+            number: 6,
+            place: 0,
+        });
+    }
+    diameters(
+        t,
+        word(s, layout::LEFT),
+        word(s, layout::RIGHT),
+        word(s, layout::DH),
+    )
+}
+
+// A file of any bytes, of any length, in a format.
+pub fn judged(f: Format, s: &[u8]) -> Dimensions
+    requires { ⌜ Readable f ⌝ }
+    ensures { λ r. ⌜ r ≡ judgedBy f (now (s .entry)) (verdict (fileTests f (now (s .entry)))) ⌝ }
+{
+    if !is_within(f.header as u64, s.len() as u64, LARGEST_FILE as u64) {
+        return Dimensions::Refused(Refusal {
+            number: 1,
+            place: 0,
+        });
+    }
+    let placed = layout_tested(f, s);
+    if let Verdict::Refused(r) = placed {
+        return Dimensions::Refused(r);
+    }
+    let numbers = numbers_tested(f, s);
+    if let Verdict::Refused(r) = numbers {
+        return Dimensions::Refused(r);
+    }
+    measured(f, s)
+}
