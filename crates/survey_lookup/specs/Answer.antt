@@ -1,7 +1,9 @@
 -- A lookup straight from a decoded survey file: what the file and its table are refused for comes first, then the lookup on the net rows.
 -- Assumes nothing.
 use Prim.Native.Nat.{ℕ}
+use mathlib.Core.List.{List}
 use Rattle.measure.specs.Quantity.{diameterUnits}
+use Rattle.refusal.specs.declared.Refusal.{Refusal}
 use Rattle.refusal.specs.declared.Verdict.{Verdict}
 use Rattle.refusal.specs.declared.Verdict.the-variants.{Passed, Refused}
 use Rattle.schedule.specs.Rows.{mostRows}
@@ -13,17 +15,13 @@ use Rattle.lookup.specs.declared.litres.LitresAnswer.{LitresAnswer}
 use Rattle.lookup.specs.declared.height.HeightAnswer.{HeightAnswer}
 use Rattle.lookup.specs.Answer.{litresAnswer, heightAnswer}
 
-abbrev pub litresBy : Verdict → Survey → ℕ → LitresAnswer
-litresBy Passed v h = litresAnswer (diameterUnits (v .tank .dh)) (v .step) (tableOf v) h
-litresBy (Refused r) v h = LitresAnswer.Refused r
+abbrev pub answerBy : {A : Type 0} → (Refusal → A) → (ℕ → ℕ → List ℕ → A) → Verdict → Survey → A
+answerBy refused look Passed v = look (diameterUnits (v .tank .dh)) (v .step) (tableOf v)
+answerBy refused look (Refused r) v = refused r
 
 -- the table lent has room for the most rows
 unfoldable pub litresFrom : Decoded → ℕ → LitresAnswer
-litresFrom file h = litresBy (verdictOn file mostRows) (file .survey) h
-
-abbrev pub heightBy : Verdict → Survey → ℕ → HeightAnswer
-heightBy Passed v w = heightAnswer (diameterUnits (v .tank .dh)) (v .step) (tableOf v) w
-heightBy (Refused r) v w = HeightAnswer.Refused r
+litresFrom file h = answerBy LitresAnswer.Refused (λ d s rows. litresAnswer d s rows h) (verdictOn file mostRows) (file .survey)
 
 unfoldable pub heightFrom : Decoded → ℕ → HeightAnswer
-heightFrom file w = heightBy (verdictOn file mostRows) (file .survey) w
+heightFrom file w = answerBy HeightAnswer.Refused (λ d s rows. heightAnswer d s rows w) (verdictOn file mostRows) (file .survey)

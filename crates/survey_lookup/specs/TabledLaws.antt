@@ -1,12 +1,13 @@
 -- What a survey file's own table tells: the verdict on the file, and where that refuses nothing the numbers and rows of its survey.
 -- Assumes nothing.
 use Prim.Native.Nat.{ℕ, _≤_}
-use mathlib.Core.Path.{_≡_, refl, sym, _∙_, ap}
+use mathlib.Core.Path.{_≡_, refl, sym, _∙_, ap, ap₂}
 use mathlib.Core.List.{List}
 use native.Mathlib.Omega.{arith}
 use lib.ListN.{length, take, length-take, length-replicate}
 use Rattle.laws.specs.FillLaws.{length-rowsOf}
 use Rattle.measure.specs.Quantity.{diameterUnits}
+use Rattle.refusal.specs.declared.Refusal.{Refusal}
 use Rattle.refusal.specs.declared.Verdict.{Verdict}
 use Rattle.refusal.specs.declared.Verdict.the-variants.{Passed, Refused}
 use Rattle.refusal.specs.Test.{verdict}
@@ -23,6 +24,7 @@ use Rattle.table.specs.Answer.{verdictOn, tableLeft}
 use Rattle.table.specs.AnswerLaws.{front-is-table}
 use Rattle.survey_lookup.specs.declared.Tabled.{Tabled}
 use Rattle.survey_lookup.specs.Tabled.{noRows, tabledBy, tabled}
+use Rattle.survey_lookup.specs.Answer.{answerBy}
 
 pub no-rows-room : length noRows ≡ mostRows
 unfolding noRows
@@ -66,3 +68,18 @@ ready file within is-passed =
 -- of a file of any bytes
 pub ready-file : (s : List ℕ) {t : Tabled} → t ≡ tabled (decoded s) → t .verdict ≡ Passed → Ready (decoded s .survey) t
 ready-file s is is-passed = rw is (ready (decoded s) (decoded-fits s) (sym (ap (λ t. t .verdict) is) ∙ is-passed))
+
+-- any lookup on the table that was made is the answer from the file; so is the refusal of one that was not made
+module _ {A : Type 0} (refused : Refusal → A) (look : ℕ → ℕ → List ℕ → A) (s : List ℕ) {t : Tabled} (is : t ≡ tabled (decoded s)) where
+  by-verdict : (w : Verdict) → t .verdict ≡ w → answerBy refused look w (decoded s .survey) ≡ answerBy refused look (verdictOn (decoded s) mostRows) (decoded s .survey)
+  by-verdict w e = ap (λ u. answerBy refused look u (decoded s .survey)) (sym e ∙ ap (λ t. t .verdict) is ∙ tabled-verdict (decoded s))
+
+  pub answer-made : t .verdict ≡ Passed → look (t .dh) (t .step) (take (t .rows) (t .table)) ≡ answerBy refused look (verdictOn (decoded s) mostRows) (decoded s .survey)
+  answer-made passed =
+      let found = ready-file s is passed in
+      ap₂ (λ d k. look d k (take (t .rows) (t .table))) (found .dh-is) (found .step-is)
+      ∙ ap (look _ _) (found .front)
+      ∙ by-verdict Passed passed
+
+  pub answer-refused : (r : Refusal) → t .verdict ≡ Refused r → refused r ≡ answerBy refused look (verdictOn (decoded s) mostRows) (decoded s .survey)
+  answer-refused r e = by-verdict (Refused r) e

@@ -1,5 +1,5 @@
 -- `survey::decode::decode_as` meets its contract: what judging the file told. Assumes nothing.
-use mathlib.Core.Path.{sym, _∙_, ap, ap₂}
+use mathlib.Core.Path.{sym, _∙_, ap₂}
 use Rattle.measure.specs.Quantity.{diameterUnits}
 use Rattle.refusal.specs.declared.Verdict.the-variants.{Passed}
 use Rattle.refusal.specs.Test.{verdict}
