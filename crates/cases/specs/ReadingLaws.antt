@@ -8,6 +8,7 @@ use lib.IntN.{ℤ, pos, negsuc}
 use Rattle.laws.specs.Root.{root}
 use Rattle.laws.specs.Nearest.{nearest}
 use Rattle.laws.specs.Half.{halfDifference}
+use Rattle.measure.specs.Quantity.{diameterUnits}
 use Rattle.schedule.specs.Rows.{rowCount}
 use Rattle.circle.specs.Circle.{chord, chordSquare}
 use Rattle.heads.specs.declared.kind.HeadKind.the-variants.{HalfEllipsoid}
@@ -18,7 +19,6 @@ use Rattle.refusal.specs.declared.Verdict.the-variants.{Passed}
 use Rattle.survey.specs.Dimensions.{outerDiameter}
 use Rattle.survey.specs.Survey.{decoded}
 use Rattle.survey.specs.ExampleLaws.{sixRows, six-rows-decoded}
-use Rattle.table.specs.Rows.{rowsIn}
 
 -- what the rule gives, and what the paper says; both with a sign
 pub record Reading : Type 0 where
@@ -62,6 +62,6 @@ readings-hold = (refl, (refl, (refl, (refl, (refl, (refl, (refl, (refl, (refl, (
 pub example-accepted : decoded sixRows .verdict ≡ Passed
 example-accepted = ap (λ file. file .verdict) six-rows-decoded
 
-pub example-rows : rowsIn (decoded sixRows .survey) ≡ 6
+pub example-rows : rowCount (diameterUnits (decoded sixRows .survey .tank .dh)) (decoded sixRows .survey .step) ≡ 6
 unfolding rowCount
-example-rows = ap (λ file. rowsIn (file .survey)) six-rows-decoded
+example-rows = ap (λ file. rowCount (diameterUnits (file .survey .tank .dh)) (file .survey .step)) six-rows-decoded
