@@ -24,7 +24,7 @@ differing() {
 }
 
 # what reads bytes, cited by another crate than survey
-bytes_seen() { grep -rnE 'Rattle\.survey\.specs\.(Word|Layout|Limits|Section|Item|Tests|SectionLaws|CourseLaws)\b' "$@"; }
+bytes_seen() { grep -rnE 'Rattle\.survey\.specs\.(Word|Layout|Limits|Section|Item|Tests|Judged|SectionLaws|JudgedLaws|CourseLaws)\b' "$@"; }
 
 rooms=$(grep -c '^[a-z_]*:' crates.txt)
 files=$(find crates -name '*.rt' -o -name '*.antt' | wc -l)
