@@ -1,30 +1,55 @@
 -- The library's own statements say what the plain numbers promise. Assumes nothing.
 use Prim.Native.Nat.{ℕ}
+use mathlib.Core.Path.{_≡_, refl}
 use mathlib.Core.List.{List}
 use native.Mathlib.Omega.{arith}
+use Rattle.laws.specs.Exactly.{Exactly}
 use Rattle.refusal.specs.declared.Verdict.{Verdict}
 use Rattle.refusal.specs.declared.Verdict.the-variants.{Passed, Refused}
 use Rattle.survey.specs.declared.decode.Decoded.{Decoded}
+use Rattle.survey.specs.declared.decode.Survey.{Survey}
 use Rattle.table.specs.Answer.{made, answerBy, verdictOn}
-use Rattle.table.specs.Condition3.{Condition3Of}
-use Rattle.lookup.specs.Answer.{heightAnswer, Reached}
-use Rattle.capi.specs.Numbers.{tableNumbers, heightNumbers}
-use Rattle.capi.specs.Promises.{Condition3Counted, LowestAnswered}
-use Rattle.capi.specs.RefusalLaws.{height-answered}
+use Rattle.table.specs.Condition3.{EveryRow}
+use Rattle.lookup.specs.Litres.{litres}
+use Rattle.lookup.specs.Height.{heightFor}
+use Rattle.lookup.specs.Answer.{litresBy, litresAnswer, ReadOff, TooHigh, heightBy, heightAnswer, Reached, TooMuch}
+use Rattle.lookup.specs.AnswerLaws.{above-limit}
+use Rattle.capi.specs.Numbers.{tableNumbers, litresNumbers, heightNumbers}
+use Rattle.capi.specs.Promises.{EveryCounted, OnTableAnswered, LowestAnswered}
+use Rattle.capi.specs.RefusalLaws.{litres-answered, height-answered}
 
-pub counted : (file : Decoded) (cells : ℕ) (table : List ℕ)
-    → Condition3Of (file .survey) (made file cells) table → Condition3Counted (file .survey) (tableNumbers (made file cells) .rows) table
+pub counted : (claim : Survey → List ℕ → ℕ → Type 0) (file : Decoded) (cells : ℕ) (table : List ℕ)
+    → EveryRow claim (file .survey) (made file cells) table → EveryCounted claim (file .survey) (tableNumbers (made file cells) .rows) table
 unfolding made
-counted file cells table = by-verdict (verdictOn file cells)
+counted claim file cells table = by-verdict (verdictOn file cells)
   where
-    by-verdict : (w : Verdict) → Condition3Of (file .survey) (answerBy w (file .survey)) table
-        → Condition3Counted (file .survey) (tableNumbers (answerBy w (file .survey)) .rows) table
+    by-verdict : (w : Verdict) → EveryRow claim (file .survey) (answerBy w (file .survey)) table
+        → EveryCounted claim (file .survey) (tableNumbers (answerBy w (file .survey)) .rows) table
     by-verdict Passed holds = holds
     by-verdict (Refused r) holds = λ i l. absurd (omega arith)
 
-pub lowest-answered : (dh step : ℕ) (table : List ℕ) (w : ℕ)
-    → Reached dh step table w (heightAnswer dh step table w) → LowestAnswered dh step table w (heightNumbers (heightAnswer dh step table w))
-unfolding heightAnswer
-lowest-answered dh step table w reached e =
-    let passed = height-answered dh step table w e in
-    rw passed (rw passed at reached)
+module _ (dh step : ℕ) (table : List ℕ) where
+  pub on-table-answered : (h : ℕ) → ReadOff dh step table h (litresAnswer dh step table h)
+      → OnTableAnswered dh step table h (litresNumbers (litresAnswer dh step table h))
+  unfolding litresAnswer
+  on-table-answered h told e =
+      let passed = litres-answered dh step table h e in
+      rw passed (rw passed at told)
+
+  pub lowest-answered : (w : ℕ) → Reached dh step table w (heightAnswer dh step table w)
+      → LowestAnswered dh step table w (heightNumbers (heightAnswer dh step table w))
+  unfolding heightAnswer
+  lowest-answered w told e =
+      let passed = height-answered dh step table w e in
+      rw passed (rw passed at told)
+
+  -- refusals 12 and 13 by their numbers alone
+  pub number-12 : (h : ℕ) → Exactly (litresNumbers (litresAnswer dh step table h) .refusal ≡ 12) (TooHigh dh step table h)
+  unfolding litresAnswer
+  number-12 h =
+      above-limit dh step table (λ v. litresNumbers (litresBy v (litres dh step table h)) .refusal ≡ 12) 12 h dh (λ e. omega arith) (λ e. omega arith) refl
+
+  pub number-13 : (w : ℕ) → Exactly (heightNumbers (heightAnswer dh step table w) .refusal ≡ 13) (TooMuch dh step table w)
+  unfolding heightAnswer
+  number-13 w =
+      above-limit dh step table (λ v. heightNumbers (heightBy v (heightFor dh step table w)) .refusal ≡ 13) 13 w _ (λ e. omega arith) (λ e. omega arith) refl

@@ -2,11 +2,13 @@
 // slices alone. A slice is a pointer and a length to C. Nothing is asked of a caller but that these are what they say.
 ghost use mathlib.Core.Path.{_≡_};
 ghost use lib.ListN.{length};
+ghost use Rattle.laws.specs.Exactly.{Exactly};
 ghost use Rattle.survey.specs.Survey.{decoded};
 ghost use Rattle.table.specs.Answer.{made, tableLeft};
-ghost use Rattle.lookup.specs.Answer.{litresAnswer, heightAnswer};
+ghost use Rattle.table.specs.Condition3.{NetRowAt, Condition3At};
+ghost use Rattle.lookup.specs.Answer.{litresAnswer, TooHigh, heightAnswer, TooMuch};
 ghost use Rattle.capi.specs.Numbers.{tableNumbers, litresNumbers, heightNumbers};
-ghost use Rattle.capi.specs.Promises.{Condition3Counted, LowestAnswered};
+ghost use Rattle.capi.specs.Promises.{EveryCounted, OnTableAnswered, LowestAnswered};
 use lookup::height::height_for;
 use lookup::litres::litres_at;
 use measure::dip_height::DipHeight;
@@ -26,7 +28,8 @@ pub mod numbers;
 pub extern "C" fn milechime_table(survey: &[u8], table: &mut [u32]) -> TableNumbers
     ensures { λ r. ⌜ r ≡ tableNumbers (made (decoded (now (survey .entry))) (length (now (table .entry)))) ⌝ }
     ensures { λ r. ⌜ now (table .exit) ≡ tableLeft (decoded (now (survey .entry))) (now (table .entry)) ⌝ }
-    ensures { λ r. ⌜ Condition3Counted (decoded (now (survey .entry)) .survey) (r .rows) (now (table .exit)) ⌝ }
+    ensures { λ r. ⌜ EveryCounted NetRowAt (decoded (now (survey .entry)) .survey) (r .rows) (now (table .exit)) ⌝ }
+    ensures { λ r. ⌜ EveryCounted Condition3At (decoded (now (survey .entry)) .survey) (r .rows) (now (table .exit)) ⌝ }
 {
     table_numbers(make_table(survey, table))
 }
@@ -35,6 +38,8 @@ pub extern "C" fn milechime_table(survey: &[u8], table: &mut [u32]) -> TableNumb
 #[no_mangle]
 pub extern "C" fn milechime_litres(dh: u32, step: u32, table: &[u32], height: u32) -> LitresNumbers
     ensures { λ r. ⌜ r ≡ litresNumbers (litresAnswer dh step (now (table .entry)) height) ⌝ }
+    ensures { λ r. ⌜ OnTableAnswered dh step (now (table .entry)) height r ⌝ }
+    ensures { λ r. ⌜ Exactly (r .refusal ≡ 12) (TooHigh dh step (now (table .entry)) height) ⌝ }
 {
     litres_numbers(litres_at(dh, step, table, DipHeight::of(height)))
 }
@@ -44,6 +49,7 @@ pub extern "C" fn milechime_litres(dh: u32, step: u32, table: &[u32], height: u3
 pub extern "C" fn milechime_height(dh: u32, step: u32, table: &[u32], volume: u32) -> HeightNumbers
     ensures { λ r. ⌜ r ≡ heightNumbers (heightAnswer dh step (now (table .entry)) volume) ⌝ }
     ensures { λ r. ⌜ LowestAnswered dh step (now (table .entry)) volume r ⌝ }
+    ensures { λ r. ⌜ Exactly (r .refusal ≡ 13) (TooMuch dh step (now (table .entry)) volume) ⌝ }
 {
     height_numbers(height_for(dh, step, table, Volume::of(volume)))
 }

@@ -1,7 +1,7 @@
 -- Laws of `nearest`, by which everything above knows it: it lies within half of the quotient, it never falls as a grows, and it is
 -- exact on a multiple. Only `nearest-of-rest` says where a half goes. Assumes nothing.
 use Prim.Native.Nat.{ℕ, _+_, _*_, _/_, _≤_, _<_}
-use mathlib.Core.Path.{_≡_, _∙_, subst}
+use mathlib.Core.Path.{_≡_, sym, _∙_, subst}
 use native.Mathlib.Nat.{le-trans, lt-mul-div-succ, le-div-iff-mul-le, div-mul-le-self, div-eq-of-lt-le, le-of-eq}
 use native.Mathlib.Omega.{arith}
 use lib.Dec.{leb}
@@ -38,6 +38,9 @@ nearest-of-multiple q b h =
     subst (λ (a : ℕ). nearest a b ≡ q) {x = q * b + 0} {y = q * b} (omega arith)
     (nearest-of-rest q 0 b h ∙ pick-gt (q + 1) q h)
 
--- below a multiple the nearest is at most that
+-- below a multiple the nearest is at most that, above it at least
 pub nearest-at-most : (a q b : ℕ) → 0 < b → a ≤ q * b → nearest a b ≤ q
 nearest-at-most a q b h l = le-trans (nearest-mono a (q * b) b h l) (le-of-eq (nearest-of-multiple q b h))
+
+pub nearest-at-least : (a q b : ℕ) → 0 < b → q * b ≤ a → q ≤ nearest a b
+nearest-at-least a q b h l = le-trans (le-of-eq (sym (nearest-of-multiple q b h))) (nearest-mono (q * b) a b h l)

@@ -1,9 +1,11 @@
 -- The answers of both lookups: the tests in the paper's order, each with its number and place, and the figure where all pass.
 -- Assumes nothing.
-use Prim.Native.Nat.{ℕ, _-_}
+use Prim.Native.Nat.{ℕ, _-_, _<_}
+use mathlib.Core.Path.{_≡_}
+use mathlib.Core.Bool.{true}
 use mathlib.Core.List.{List, [], _∷_}
 use lib.Dec.{leb}
-use Rattle.measure.specs.Quantity.{dipHeight, dipUnits, volume}
+use Rattle.measure.specs.Quantity.{dipHeight, dipUnits, volume, volumeUnits}
 use Rattle.refusal.specs.declared.Verdict.{Verdict}
 use Rattle.refusal.specs.declared.Verdict.the-variants.{Passed, Refused}
 use Rattle.refusal.specs.Test.{Test, test, verdict}
@@ -13,7 +15,7 @@ use Rattle.lookup.specs.declared.litres.LitresAnswer.the-variants as lit
 use Rattle.lookup.specs.declared.height.HeightAnswer.{HeightAnswer}
 use Rattle.lookup.specs.declared.height.HeightAnswer.the-variants as heightAnswers
 use Rattle.lookup.specs.Table.{row, soundTable}
-use Rattle.lookup.specs.Litres.{litres}
+use Rattle.lookup.specs.Litres.{litres, OnTable}
 use Rattle.lookup.specs.Height.{heightFor, Lowest}
 
 -- ---- litres at a height
@@ -27,6 +29,15 @@ litresBy (Refused r) v = litresAnswers.Refused r
 
 unfoldable pub litresAnswer : (dh step : ℕ) (table : List ℕ) (h : ℕ) → LitresAnswer
 litresAnswer dh step table h = litresBy (verdict (litresTests dh step table h)) (litres dh step table h)
+
+-- of a volume given as the answer, what it is, said outright
+abbrev pub ReadOff : (dh step : ℕ) (table : List ℕ) (h : ℕ) → LitresAnswer → Type 0
+ReadOff dh step table h (litresAnswers.Litres v) = OnTable dh step table h (volumeUnits v)
+ReadOff dh step table h (litresAnswers.Refused r) = Unit {0}
+
+-- what refusal 12 is given for: the table is sound, and the height is above DH
+abbrev pub TooHigh : (dh step : ℕ) (table : List ℕ) (h : ℕ) → Type 0
+TooHigh dh step table h = (soundTable dh step table ≡ true) × (dh < h)
 
 -- ---- the lowest height for a volume
 
@@ -44,3 +55,7 @@ heightAnswer dh step table w = heightBy (verdict (heightTests dh step table w)) 
 abbrev pub Reached : (dh step : ℕ) (table : List ℕ) (w : ℕ) → HeightAnswer → Type 0
 Reached dh step table w (heightAnswers.Height h) = Lowest dh step table w (dipUnits h)
 Reached dh step table w (heightAnswers.Refused r) = Unit {0}
+
+-- what refusal 13 is given for: the table is sound, and its last row is below the volume
+abbrev pub TooMuch : (dh step : ℕ) (table : List ℕ) (w : ℕ) → Type 0
+TooMuch dh step table w = (soundTable dh step table ≡ true) × (row table (rowCount dh step - 1) < w)

@@ -9,3 +9,4 @@ pub mod LitresLaws
 pub mod Height
 pub mod HeightLaws
 pub mod Answer
+pub mod AnswerLaws

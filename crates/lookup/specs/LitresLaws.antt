@@ -14,8 +14,8 @@ use Rattle.schedule.specs.Rows.{rowCount, rowHeight, rowBelow}
 use Rattle.schedule.specs.RowsLaws.{before-last, count-pos, height-before-last, height-at-last, height-at-most, heights-rise, below-top, below-inside, inside-count, inside-above, inside-below, height-in-steps}
 use Rattle.lookup.specs.Table.{row}
 use Rattle.lookup.specs.TableLaws.{SoundTable}
-use Rattle.lookup.specs.LineLaws.{line-at-lower, line-at-most, line-rises}
-use Rattle.lookup.specs.Litres.{above, litres}
+use Rattle.lookup.specs.LineLaws.{by-both, line-at-lower, line-at-upper, line-at-least, line-at-most, line-rises}
+use Rattle.lookup.specs.Litres.{above, litres, BetweenRows, OnTable}
 
 module _ (dh step : ℕ) (table : List ℕ) (s : SoundTable dh step table) where
   step-pos : 0 < step
@@ -53,6 +53,34 @@ module _ (dh step : ℕ) (table : List ℕ) (s : SoundTable dh step table) where
       rw (e, nothing) (sym (line-at-lower (row table i) (row table (i + 1)) _ (gap-pos i (inside-count dh step step-pos h l)))))
       (λ e. rw e))
 
+  -- between two neighbour rows, on the line from the lower
+  litres-between : (i h : ℕ) → i + 1 < rowCount dh step → rowHeight dh step i ≤ h → h ≤ rowHeight dh step (i + 1)
+      → litres dh step table h ≡ above dh step table i h
+  litres-between i h m low high =
+      by-order (rowHeight dh step (i + 1)) h
+      (λ reached.
+      let upper : rowHeight dh step (i + 1) ≡ h = omega arith in
+      rw (← upper) (litres-at-row (i + 1) m ∙ sym (line-at-upper (row table i) (row table (i + 1)) _ (gap-pos i m))))
+      (λ inside.
+      let here = height-before-last dh step step-pos i m in
+      let same : h / step ≡ i = div-eq-of-lt-le step (omega arith) (omega (arith, height-in-steps dh step step-pos (i + 1))) in
+      rw (litres-inside h (omega (arith, height-at-most dh step step-pos (i + 1))), same))
+
+  between-rows : (i h : ℕ) → i + 1 < rowCount dh step → rowHeight dh step i ≤ h → h ≤ rowHeight dh step (i + 1)
+      → BetweenRows (row table i) (row table (i + 1)) (h - rowHeight dh step i) (rowHeight dh step (i + 1) - h) (litres dh step table h)
+  between-rows i h m low high =
+      let a = row table i in
+      let b = row table (i + 1) in
+      let x = h - rowHeight dh step i in
+      let y = rowHeight dh step (i + 1) - h in
+      let gap : rowHeight dh step (i + 1) - rowHeight dh step i ≡ x + y = omega arith in
+      let some = gap-pos i m in
+      rw (litres-between i h m low high) (record {
+        on-line = rw gap (by-both a b x y (x + y) refl);
+        at-least = line-at-least a b _ some (s .keepsUp i m) x (omega arith);
+        at-most = line-at-most a b _ some (s .keepsUp i m) x (omega arith);
+      })
+
   -- litres never fall: one unit up ..
   litres-next : (h : ℕ) → h < dh → litres dh step table h ≤ litres dh step table (h + 1)
   litres-next h l =
@@ -85,3 +113,12 @@ module _ (dh step : ℕ) (table : List ℕ) (s : SoundTable dh step table) where
   litres-at-top =
       let last = height-at-last dh step step-pos (rowCount dh step - 1) (omega arith) in
       rw last at (litres-at-row (rowCount dh step - 1) (omega (arith, count-pos dh step step-pos)))
+
+  -- all that is said outright
+  pub on-table : (h : ℕ) → h ≤ dh → OnTable dh step table h (litres dh step table h)
+  on-table h l = record {
+    at-row = λ i m e. rw (← e) (litres-at-row i m);
+    between = λ i m low high. between-rows i h m low high;
+    no-less-above = λ higher m n. litres-mono h higher m n;
+    no-more-below = λ lower m. litres-mono lower h m l;
+  }

@@ -11,11 +11,12 @@ use lib.Dec.{leb}
 use borrow.Author.Tests.{leb-true}
 use Rattle.laws.specs.Order.{pick}
 use Rattle.laws.specs.OrderLaws.{by-order}
-use Rattle.laws.specs.BoolLaws.{both-pass}
+use Rattle.laws.specs.BoolLaws.{true-not-false, both-pass}
+use Rattle.laws.specs.Exactly.{Exactly}
 use Rattle.refusal.specs.declared.Refusal.{Refusal}
 use Rattle.refusal.specs.declared.Verdict.{Verdict}
 use Rattle.refusal.specs.declared.Verdict.the-variants.{Passed, Refused}
-use Rattle.refusal.specs.Test.{Test, refusal, verdict, items, within, firstRefusal}
+use Rattle.refusal.specs.Test.{Test, test, refusal, verdict, items, within, firstRefusal}
 
 pub verdict-append : (ts us : List Test) → verdict (ts ++ us) ≡ firstRefusal (verdict ts) (verdict us)
 verdict-append [] us = refl
@@ -83,6 +84,15 @@ passed-items (suc n) f e i h =
     by-order n i
     (λ l. let last : i ≡ n = omega arith in rw last (both .1))
     (λ l. passed-items n f (both .0) i l)
+
+-- of two tests, what the second's refusal says of an answer that neither passing nor the first's refusal says: it is said exactly when the
+-- first passes and the second does not
+pub second-refused : (P : Verdict → Type 0) (first second place place′ : ℕ)
+    → (P Passed → ⊥) → (P (Refused (refusal first place)) → ⊥) → P (Refused (refusal second place′)) → (a b : Bool)
+    → Exactly (P (verdict (test first place a ∷ test second place′ b ∷ []))) ((a ≡ true) × (b ≡ false))
+second-refused P first second place place′ p q r true true = record { only-when = λ h. absurd (p h); whenever = λ h. absurd (true-not-false (h .1)) }
+second-refused P first second place place′ p q r true false = record { only-when = λ h. (refl, refl); whenever = λ h. r }
+second-refused P first second place place′ p q r false b = record { only-when = λ h. absurd (q h); whenever = λ h. absurd (true-not-false (sym (h .0))) }
 
 -- what tests that pass say of numbers
 

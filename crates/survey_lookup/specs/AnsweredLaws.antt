@@ -1,5 +1,5 @@
 -- A lookup on a survey's own table is never refused for the table (refusal 11): every height up to DH and every volume up to the last
--- row is answered. Assumes nothing.
+-- row is answered; and what is answered, said outright. Assumes nothing.
 use Prim.Native.Nat.{ℕ, zero, suc, _-_, _≤_, _<_}
 use mathlib.Core.Path.{_≡_, refl, sym}
 use mathlib.Core.Bool.{true}
@@ -13,7 +13,8 @@ use Rattle.laws.specs.FillLaws.{length-rowsOf, getD-rowsOf}
 use Rattle.laws.specs.BoolLaws.{true-not-false}
 use Rattle.laws.specs.SearchLaws.{every-each}
 use Rattle.measure.specs.Quantity.{diameterUnits, dipHeight, volume}
-use Rattle.refusal.specs.declared.Verdict.the-variants.{Passed}
+use Rattle.refusal.specs.declared.Verdict.{Verdict}
+use Rattle.refusal.specs.declared.Verdict.the-variants.{Passed, Refused}
 use Rattle.refusal.specs.Test.{verdict}
 use Rattle.refusal.specs.TestLaws.{passed-both}
 use Rattle.schedule.specs.Rows.{mostRows}
@@ -29,7 +30,8 @@ use Rattle.lookup.specs.Table.{row, keepsUp, neverFalls, soundTable}
 use Rattle.lookup.specs.Litres.{litres}
 use Rattle.lookup.specs.Height.{heightFor}
 use Rattle.lookup.specs.Answer.{litresAnswer, heightAnswer}
-use Rattle.survey_lookup.specs.Answer.{litresFrom, heightFrom}
+use Rattle.lookup.specs.AnswerLaws.{read-off, reached-answer}
+use Rattle.survey_lookup.specs.Answer.{answerBy, litresFrom, heightFrom, ReadOffOwn, ReachedOwn}
 
 -- rows that are not below zero keep their order as cells
 cells-keep-up : (y z : ℤ) → nonNeg y ≡ true → nonNeg z ≡ true → leZ y z ≡ true → leb (natAbs y) (natAbs z) ≡ true
@@ -79,3 +81,27 @@ pub every-volume-answered : (file : Decoded) (w : ℕ) → WithinLimits file →
     → heightFrom file w ≡ HeightAnswer.Height (dipHeight (heightFor (diameterUnits (file .survey .tank .dh)) (file .survey .step) (tableOf (file .survey)) w))
 unfolding heightFrom heightAnswer
 every-volume-answered file w within made l = rw (made, own-table-sound file mostRows within made, le-leb _ _ l)
+
+-- what is answered is on the survey's own table
+read-off-own : (file : Decoded) (h : ℕ) → ReadOffOwn (file .survey) h (litresFrom file h)
+unfolding litresFrom
+read-off-own file h = by-verdict (verdictOn file mostRows)
+  where
+    by-verdict : (w : Verdict) → ReadOffOwn (file .survey) h (answerBy LitresAnswer.Refused (λ d s rows. litresAnswer d s rows h) w (file .survey))
+    by-verdict Passed = read-off (diameterUnits (file .survey .tank .dh)) (file .survey .step) (tableOf (file .survey)) h
+    by-verdict (Refused r) = tt
+
+reached-own : (file : Decoded) (w : ℕ) → ReachedOwn (file .survey) w (heightFrom file w)
+unfolding heightFrom
+reached-own file w = by-verdict (verdictOn file mostRows)
+  where
+    by-verdict : (u : Verdict) → ReachedOwn (file .survey) w (answerBy HeightAnswer.Refused (λ d s rows. heightAnswer d s rows w) u (file .survey))
+    by-verdict Passed = reached-answer (diameterUnits (file .survey .tank .dh)) (file .survey .step) (tableOf (file .survey)) w
+    by-verdict (Refused r) = tt
+
+-- so the answer alone tells all that a lookup promises
+pub litres-from-told : (file : Decoded) (h : ℕ) {r : LitresAnswer} → r ≡ litresFrom file h → (r ≡ litresFrom file h) × ReadOffOwn (file .survey) h r
+litres-from-told file h e = (e, rw e (read-off-own file h))
+
+pub height-from-told : (file : Decoded) (w : ℕ) {r : HeightAnswer} → r ≡ heightFrom file w → (r ≡ heightFrom file w) × ReachedOwn (file .survey) w r
+height-from-told file w e = (e, rw e (reached-own file w))

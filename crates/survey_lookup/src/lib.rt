@@ -2,7 +2,7 @@
 ghost use mathlib.Core.Path.{_≡_};
 ghost use Rattle.measure.specs.Quantity.{dipUnits, volumeUnits};
 ghost use Rattle.survey.specs.Survey.{decoded};
-ghost use Rattle.survey_lookup.specs.Answer.{litresFrom, heightFrom};
+ghost use Rattle.survey_lookup.specs.Answer.{litresFrom, heightFrom, ReadOffOwn, ReachedOwn};
 ghost use Rattle.survey_lookup.specs.Tabled.{tabled};
 use lookup::height::HeightAnswer;
 use lookup::height::height_for;
@@ -56,6 +56,7 @@ pub fn table_of(survey: &[u8]) -> Tabled
 // The litres at a dip height of the surveyed tank, or the first refusal: the survey's, the table's or the lookup's.
 pub fn litres_from(survey: &[u8], height: DipHeight) -> LitresAnswer
     ensures { λ r. ⌜ r ≡ litresFrom (decoded (now (survey .entry))) (dipUnits height) ⌝ }
+    ensures { λ r. ⌜ ReadOffOwn (decoded (now (survey .entry)) .survey) (dipUnits height) r ⌝ }
 {
     let t = table_of(survey);
     let verdict = t.verdict;
@@ -70,6 +71,7 @@ pub fn litres_from(survey: &[u8], height: DipHeight) -> LitresAnswer
 // The lowest dip height at which the surveyed tank holds a volume, or the first refusal.
 pub fn height_from(survey: &[u8], volume: Volume) -> HeightAnswer
     ensures { λ r. ⌜ r ≡ heightFrom (decoded (now (survey .entry))) (volumeUnits volume) ⌝ }
+    ensures { λ r. ⌜ ReachedOwn (decoded (now (survey .entry)) .survey) (volumeUnits volume) r ⌝ }
 {
     let t = table_of(survey);
     let verdict = t.verdict;

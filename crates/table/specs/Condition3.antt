@@ -1,4 +1,5 @@
--- Condition 3 of the memory that the call writes: of every row of every table that is made. Assumes nothing.
+-- What holds of every row of a table that is made, said outright of the memory that the call writes: the cell is the net row, and
+-- condition 3. Assumes nothing.
 use Prim.Native.Nat.{ℕ, _<_}
 use mathlib.Core.Path.{_≡_}
 use mathlib.Core.List.{List}
@@ -9,16 +10,19 @@ use Rattle.tank.specs.Condition3.{Condition3}
 use Rattle.survey.specs.declared.decode.Survey.{Survey}
 use Rattle.table.specs.declared.make.Made.{Made}
 use Rattle.table.specs.declared.make.Made.the-variants as answers
-use Rattle.table.specs.Rows.{sharesAt, rowsIn, heightOf}
+use Rattle.table.specs.Rows.{sharesAt, heightOf, grossRow, netRow}
 
--- at row i of the table that the call left: the gross row is the cell plus all deadwood shares there, and each part of the tank has a
--- count of slabs of its own
+-- the cell of row i, as a signed number, is the net row
+abbrev pub NetRowAt : Survey → List ℕ → ℕ → Type 0
+NetRowAt v table i = pos (getD table i 0) ≡ netRow v i
+
+-- the gross row is the gross volume at row i's height, and it is the cell plus all deadwood shares there; of it condition 3 is claimed, each
+-- part of the tank having a count of slabs of its own
 pub record Condition3At (v : Survey) (table : List ℕ) (i : ℕ) : Type 0 where
-  pub grossRow : ℕ
-  pub restored : pos grossRow ≡ pos (getD table i 0) +ℤ sharesAt v (heightOf v i)
-  pub slabs : (count : ℕ → ℕ) → ((part : ℕ) → 0 < count part) → Condition3 (filledAt (v .tank) (heightOf v i)) grossRow count
+  pub restored : pos (grossRow v i) ≡ pos (getD table i 0) +ℤ sharesAt v (heightOf v i)
+  pub slabs : (count : ℕ → ℕ) → ((part : ℕ) → 0 < count part) → Condition3 (filledAt (v .tank) (heightOf v i)) (grossRow v i) count
 
--- whole: every row of every table that is made
-abbrev pub Condition3Of : Survey → Made → List ℕ → Type 0
-Condition3Of v (answers.Table d1 d2 rows) table = (i : ℕ) → i < rowsIn v → Condition3At v table i
-Condition3Of v (answers.Refused r) table = Unit {0}
+-- a claim about a row, of every row of every table that is made
+abbrev pub EveryRow : (Survey → List ℕ → ℕ → Type 0) → Survey → Made → List ℕ → Type 0
+EveryRow claim v (answers.Table d1 d2 rows) table = (i : ℕ) → i < rows → claim v table i
+EveryRow claim v (answers.Refused r) table = Unit {0}

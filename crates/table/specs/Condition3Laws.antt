@@ -1,4 +1,4 @@
--- Condition 3 holds of every row that the call writes. Assumes nothing.
+-- Every cell that the call writes is the net row, and condition 3 holds of it. Assumes nothing.
 use Prim.Native.Nat.{ℕ}
 use mathlib.Core.Path.{_≡_, refl, sym, _∙_, ap}
 use mathlib.Core.Bool.{true}
@@ -14,44 +14,55 @@ use Rattle.refusal.specs.declared.Verdict.{Verdict}
 use Rattle.refusal.specs.declared.Verdict.the-variants.{Passed, Refused}
 use Rattle.refusal.specs.Test.{verdict}
 use Rattle.refusal.specs.TestLaws.{passed-both}
-use Rattle.tank.specs.Tank.{grossAt}
 use Rattle.tank.specs.Condition3Laws.{condition3}
 use Rattle.survey.specs.declared.decode.Decoded.{Decoded}
 use Rattle.survey.specs.declared.decode.Survey.{Survey}
 use Rattle.survey.specs.SurveyLaws.{SurveyLimits, WithinLimits}
-use Rattle.table.specs.Rows.{sharesAt, netAt, rowsIn, heightOf, netRow, cellOf}
+use Rattle.table.specs.Rows.{sharesAt, netAt, rowsIn, heightOf, grossRow, netRow, cellOf}
 use Rattle.table.specs.Tests.{tableTests}
 use Rattle.table.specs.RowTestLaws.{none-below-zero}
 use Rattle.table.specs.Answer.{verdictOn, answerBy, leftBy, made, tableLeft}
-use Rattle.table.specs.Condition3.{Condition3At, Condition3Of}
+use Rattle.table.specs.Condition3.{NetRowAt, Condition3At, EveryRow}
 
 natural-size : (z : ℤ) → nonNeg z ≡ true → pos (natAbs z) ≡ z
 natural-size (pos n) e = refl
 natural-size (negsuc n) e = absurd (true-not-false (sym e))
 
--- at a row whose cell holds the net row
-row-holds : (v : Survey) (table : List ℕ) (i : ℕ) → SurveyLimits v → pos (getD table i 0) ≡ netRow v i → Condition3At v table i
+-- a row whose cell is the net row: the gross row is recovered from it
+row-holds : (v : Survey) (table : List ℕ) (i : ℕ) → SurveyLimits v → NetRowAt v table i → Condition3At v table i
 unfolding netAt
 row-holds v table i l e =
     let h = heightOf v i in
     record {
-      grossRow = grossAt (v .tank) h;
-      restored = sym (ap (λ z. z +ℤ sharesAt v h) e ∙ -ℤ-+ℤ-cancel (pos (grossAt (v .tank) h)) (sharesAt v h));
+      restored = sym (ap (λ z. z +ℤ sharesAt v h) e ∙ -ℤ-+ℤ-cancel (pos (grossRow v i)) (sharesAt v h));
       slabs = condition3 (v .tank) (l .tank) h;
     }
 
--- at every row of the table that a call leaves
-pub condition3-left : (file : Decoded) (table : List ℕ) → WithinLimits file → Condition3Of (file .survey) (made file (length table)) (tableLeft file table)
+-- what follows from a cell that is the net row holds of every row of the table that a call leaves ..
+every-row-left : (claim : Survey → List ℕ → ℕ → Type 0) (file : Decoded) (table : List ℕ)
+    → ((left : List ℕ) (i : ℕ) → file .verdict ≡ Passed → NetRowAt (file .survey) left i → claim (file .survey) left i)
+    → EveryRow claim (file .survey) (made file (length table)) (tableLeft file table)
 unfolding made tableLeft
-condition3-left file table within = by-verdict (verdictOn file (length table)) refl
+every-row-left claim file table follows = by-verdict (verdictOn file (length table)) refl
   where
+    v : Survey
+    v = file .survey
+
     by-verdict : (w : Verdict) → verdictOn file (length table) ≡ w
-        → Condition3Of (file .survey) (answerBy w (file .survey)) (leftBy w (cellOf (file .survey)) (rowsIn (file .survey)) table)
+        → EveryRow claim v (answerBy w v) (leftBy w (cellOf v) (rowsIn v) table)
     by-verdict Passed e = λ i l.
-        let v = file .survey in
         let both = passed-both (file .verdict) (verdict (tableTests v (length table))) e in
         let cells = rowsOf (cellOf v) (rowsIn v) in
-        row-holds v (cells ++ drop (rowsIn v) table) i (within (both .0))
+        follows (cells ++ drop (rowsIn v) table) i (both .0)
         (ap pos (List·getD-append cells (drop (rowsIn v) table) 0 i (omega (arith, length-rowsOf (cellOf v) (rowsIn v))) ∙ getD-rowsOf (cellOf v) 0 (rowsIn v) i l)
         ∙ natural-size (netRow v i) (none-below-zero v (length table) (both .1) i l))
     by-verdict (Refused r) e = tt
+
+-- .. that it is, and condition 3
+pub net-rows-left : (file : Decoded) (table : List ℕ) → EveryRow NetRowAt (file .survey) (made file (length table)) (tableLeft file table)
+net-rows-left file table = every-row-left NetRowAt file table (λ left i passed net. net)
+
+pub condition3-left : (file : Decoded) (table : List ℕ) → WithinLimits file
+    → EveryRow Condition3At (file .survey) (made file (length table)) (tableLeft file table)
+condition3-left file table within =
+    every-row-left Condition3At file table (λ left i passed net. row-holds (file .survey) left i (within passed) net)

@@ -25,6 +25,10 @@ rowsIn v = rowCount (diameterUnits (v .tank .dh)) (v .step)
 abbrev pub heightOf : Survey → ℕ → ℕ
 heightOf v i = rowHeight (diameterUnits (v .tank .dh)) (v .step) i
 
+-- the gross row: the gross volume at the row's height
+abbrev pub grossRow : Survey → ℕ → ℕ
+grossRow v i = grossAt (v .tank) (heightOf v i)
+
 abbrev pub netRow : Survey → ℕ → ℤ
 netRow v i = netAt v (heightOf v i)
 

@@ -7,7 +7,7 @@ ghost use Rattle.survey.specs.SurveyLaws.{SurveyLimits, WithinLimits};
 ghost use Rattle.table.specs.Rows.{rowsIn, cellOf};
 ghost use Rattle.table.specs.Tests.{tableTests};
 ghost use Rattle.table.specs.Answer.{leftBy, answerBy, made, tableLeft};
-ghost use Rattle.table.specs.Condition3.{Condition3Of};
+ghost use Rattle.table.specs.Condition3.{EveryRow, NetRowAt, Condition3At};
 use crate::copy::test_and_copy;
 use crate::rows::net_rows;
 use measure::diameter::Diameter;
@@ -54,12 +54,14 @@ fn answer(v: Survey, verdict: Verdict) -> Made
     }
 }
 
-// From a decoded file and any table: the whole answer, what the table holds afterwards, and condition 3 of every row that was written.
+// From a decoded file and any table: the whole answer, what the table holds afterwards, and of every row that was written that it is
+// the net row, and condition 3.
 pub fn tabulate(file: Decoded, table: &mut [u32]) -> Made
     requires { ⌜ WithinLimits file ⌝ }
     ensures { λ r. ⌜ r ≡ made file (length (now (table .entry))) ⌝ }
     ensures { λ r. ⌜ now (table .exit) ≡ tableLeft file (now (table .entry)) ⌝ }
-    ensures { λ r. ⌜ Condition3Of (file .survey) r (now (table .exit)) ⌝ }
+    ensures { λ r. ⌜ EveryRow NetRowAt (file .survey) r (now (table .exit)) ⌝ }
+    ensures { λ r. ⌜ EveryRow Condition3At (file .survey) r (now (table .exit)) ⌝ }
 {
     let verdict = file.verdict;
     let v = file.survey;
@@ -73,7 +75,8 @@ pub fn tabulate(file: Decoded, table: &mut [u32]) -> Made
 pub fn make_table(survey: &[u8], table: &mut [u32]) -> Made
     ensures { λ r. ⌜ r ≡ made (decoded (now (survey .entry))) (length (now (table .entry))) ⌝ }
     ensures { λ r. ⌜ now (table .exit) ≡ tableLeft (decoded (now (survey .entry))) (now (table .entry)) ⌝ }
-    ensures { λ r. ⌜ Condition3Of (decoded (now (survey .entry)) .survey) r (now (table .exit)) ⌝ }
+    ensures { λ r. ⌜ EveryRow NetRowAt (decoded (now (survey .entry)) .survey) r (now (table .exit)) ⌝ }
+    ensures { λ r. ⌜ EveryRow Condition3At (decoded (now (survey .entry)) .survey) r (now (table .exit)) ⌝ }
 {
     tabulate(decode(survey), table)
 }

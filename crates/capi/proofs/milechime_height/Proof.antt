@@ -4,7 +4,7 @@ use borrow.Author.Needs.{needs}
 use Rattle.lookup.specs.Answer.{heightAnswer}
 use Rattle.measure.specs.Quantity.{volumeUnits}
 use Rattle.capi.specs.Numbers.{heightNumbers}
-use Rattle.capi.specs.PromiseLaws.{lowest-answered}
+use Rattle.capi.specs.PromiseLaws.{lowest-answered, number-13}
 use Rattle.capi.proofs.milechime_height.Statement.{statement}
 use Rattle.capi.proofs.milechime_height.Tie as tie
 
@@ -15,7 +15,8 @@ returns c =
     let asked = ap volumeUnits (c .before .before .of .ensures) in
     let answer = told .0 ∙ ap (heightAnswer (a .dh) (a .step) (a .table .now)) asked in
     let numbers = c .height-numbers .ensures ∙ ap heightNumbers answer in
-    (numbers, rw numbers (lowest-answered (a .dh) (a .step) (a .table .now) (a .volume) (rw (answer, asked) at (told .1))))
+    let lowest = lowest-answered (a .dh) (a .step) (a .table .now) (a .volume) (rw (answer, asked) at (told .1 .0)) in
+    (numbers, rw numbers (lowest, number-13 (a .dh) (a .step) (a .table .now) (a .volume)))
 
 pub milechime-height-spec : {M : Type 1} → statement M
 milechime-height-spec =

@@ -6,6 +6,7 @@ use Rattle.survey.specs.Survey.{decoded}
 use Rattle.lookup.specs.declared.height.HeightAnswer.{HeightAnswer}
 use Rattle.lookup.specs.Answer.{heightAnswer}
 use Rattle.survey_lookup.specs.Answer.{heightFrom}
+use Rattle.survey_lookup.specs.AnsweredLaws.{height-from-told}
 use Rattle.survey_lookup.specs.TabledLaws.{Ready, ready-file, answer-made, answer-refused}
 use borrow.Author.Needs.{needs}
 use Rattle.survey_lookup.proofs.height_from.Statement.{statement}
@@ -26,14 +27,16 @@ returns : tie.Need-returns
 unfolding heightFrom
 returns c =
     let asked = volumeUnits (c .before .before .before .before .before .before .args .volume) in
-    answer-refused HeightAnswer.Refused (λ d s rows. heightAnswer d s rows asked) _ (c .before .before .before .before .table-of .ensures) _ (c .before .verdict .given .1)
+    let file = decoded (c .before .before .before .before .before .before .args .survey .now) in
+    height-from-told file asked (answer-refused HeightAnswer.Refused (λ d s rows. heightAnswer d s rows asked) _ (c .before .before .before .before .table-of .ensures) _ (c .before .verdict .given .1))
 
 returns-2 : tie.Need-returns-2
 unfolding heightFrom
 returns-2 c =
     let asked = volumeUnits (c .before .before .before .before .before .before .before .args .volume) in
-    c .height-for .ensures .0
-    ∙ answer-made HeightAnswer.Refused (λ d s rows. heightAnswer d s rows asked) _ (c .before .before .before .before .before .table-of .ensures) (c .before .before .enum-told .given .1)
+    let file = decoded (c .before .before .before .before .before .before .before .args .survey .now) in
+    height-from-told file asked (c .height-for .ensures .0
+    ∙ answer-made HeightAnswer.Refused (λ d s rows. heightAnswer d s rows asked) _ (c .before .before .before .before .before .table-of .ensures) (c .before .before .enum-told .given .1))
 
 pub height-from-spec : {M : Type 1} → statement M
 height-from-spec =

@@ -6,6 +6,7 @@ use Rattle.survey.specs.Survey.{decoded}
 use Rattle.lookup.specs.declared.litres.LitresAnswer.{LitresAnswer}
 use Rattle.lookup.specs.Answer.{litresAnswer}
 use Rattle.survey_lookup.specs.Answer.{litresFrom}
+use Rattle.survey_lookup.specs.AnsweredLaws.{litres-from-told}
 use Rattle.survey_lookup.specs.TabledLaws.{Ready, ready-file, answer-made, answer-refused}
 use borrow.Author.Needs.{needs}
 use Rattle.survey_lookup.proofs.litres_from.Statement.{statement}
@@ -26,14 +27,16 @@ returns : tie.Need-returns
 unfolding litresFrom
 returns c =
     let asked = dipUnits (c .before .before .before .before .before .before .args .height) in
-    answer-refused LitresAnswer.Refused (λ d s rows. litresAnswer d s rows asked) _ (c .before .before .before .before .table-of .ensures) _ (c .before .verdict .given .1)
+    let file = decoded (c .before .before .before .before .before .before .args .survey .now) in
+    litres-from-told file asked (answer-refused LitresAnswer.Refused (λ d s rows. litresAnswer d s rows asked) _ (c .before .before .before .before .table-of .ensures) _ (c .before .verdict .given .1))
 
 returns-2 : tie.Need-returns-2
 unfolding litresFrom
 returns-2 c =
     let asked = dipUnits (c .before .before .before .before .before .before .before .args .height) in
-    c .litres-at .ensures
-    ∙ answer-made LitresAnswer.Refused (λ d s rows. litresAnswer d s rows asked) _ (c .before .before .before .before .before .table-of .ensures) (c .before .before .enum-told .given .1)
+    let file = decoded (c .before .before .before .before .before .before .before .args .survey .now) in
+    litres-from-told file asked (c .litres-at .ensures .0
+    ∙ answer-made LitresAnswer.Refused (λ d s rows. litresAnswer d s rows asked) _ (c .before .before .before .before .before .table-of .ensures) (c .before .before .enum-told .given .1))
 
 pub litres-from-spec : {M : Type 1} → statement M
 litres-from-spec =

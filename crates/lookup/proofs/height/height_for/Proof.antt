@@ -1,5 +1,5 @@
--- `lookup::height::height_for` meets its contract: each return is the case of the answer that its tests lead to, and where the full
--- tank reaches the volume the definition gives the lowest height. Assumes nothing.
+-- `lookup::height::height_for` meets its contract: each return is the case of the answer that its tests lead to, which tells the
+-- rest. Assumes nothing.
 use mathlib.Core.Path.{_≡_, sym, _∙_, ap}
 use mathlib.Core.Bool.{true, false}
 use Prim.Native.Nat.{ℕ, _-_, _≤_}
@@ -16,8 +16,8 @@ use Rattle.lookup.specs.TableLaws.{SoundTable, sound}
 use Rattle.lookup.specs.Litres.{litres}
 use Rattle.lookup.specs.LitresLaws.{litres-at-top}
 use Rattle.lookup.specs.Height.{heightFor}
-use Rattle.lookup.specs.HeightLaws.{reached}
 use Rattle.lookup.specs.Answer.{heightAnswer}
+use Rattle.lookup.specs.AnswerLaws.{height-told}
 use Rattle.lookup.proofs.height.height_for.Statement.{statement}
 use Rattle.lookup.proofs.height.height_for.Tie as tie
 
@@ -54,7 +54,7 @@ unfolding heightAnswer
 returns c =
     let a = c .before .before .before .args in
     let faulty : soundTable (a .dh) (a .step) (a .table .now) ≡ false = sym (c .before .is-sound-table .ensures) ∙ not-true _ (c .if1 .taken) in
-    (simp faulty, tt)
+    height-told _ _ _ _ (simp faulty)
 
 sub-if2 : tie.Need-sub-if2
 sub-if2 c = some-rows (c .before)
@@ -68,7 +68,7 @@ returns-2 c =
     let a = c .before .before .before .before .before .before .args in
     let s = sound-table (c .before .before .before) in
     let last = ap (λ (n : ℕ). row (a .table .now) (n - 1)) (s .count) in
-    (simp (fine (c .before .before .before), lt-leb (volumeUnits (a .volume)) (row (a .table .now) (rowCount (a .dh) (a .step) - 1)) (omega (arith, c .before .before .units .ensures))), tt)
+    height-told _ _ _ _ (simp (fine (c .before .before .before), lt-leb (volumeUnits (a .volume)) (row (a .table .now) (rowCount (a .dh) (a .step) - 1)) (omega (arith, c .before .before .units .ensures))))
 
 lowest-requires : tie.Need-lowest-requires
 lowest-requires c κs = (
@@ -83,10 +83,8 @@ returns-3 c =
     let a = checked .before .before .before .before .before .before .args in
     let w = checked .before .before .units .ensures in
     let h = c .before .lowest .ensures ∙ ap (heightFor (a .dh) (a .step) (a .table .now)) w in
-    let given = c .of .ensures ∙ ap dipHeight h in (
-      simp (fine (checked .before .before .before), le-leb _ _ (enough checked)) (ap Height given),
-      rw given (reached (full checked)),
-    )
+    let given = c .of .ensures ∙ ap dipHeight h in
+    height-told _ _ _ _ (simp (fine (checked .before .before .before), le-leb _ _ (enough checked)) (ap Height given))
 
 pub height-for-spec : {M : Type 1} → statement M
 height-for-spec =

@@ -1,4 +1,5 @@
--- `lookup::litres::litres_at` meets its contract: each return is the case of the answer that its tests lead to. Assumes nothing.
+-- `lookup::litres::litres_at` meets its contract: each return is the case of the answer that its tests lead to, which
+-- tells the rest. Assumes nothing.
 use mathlib.Core.Path.{_≡_, sym, _∙_, ap}
 use mathlib.Core.Bool.{true, false}
 use native.Mathlib.Omega.{arith}
@@ -10,6 +11,7 @@ use Rattle.lookup.specs.Table.{soundTable}
 use Rattle.lookup.specs.TableLaws.{sound}
 use Rattle.lookup.specs.Litres.{litres}
 use Rattle.lookup.specs.Answer.{litresAnswer}
+use Rattle.lookup.specs.AnswerLaws.{litres-told}
 use Rattle.lookup.proofs.litres.litres_at.Statement.{statement}
 use Rattle.lookup.proofs.litres.litres_at.Tie as tie
 
@@ -23,13 +25,13 @@ unfolding litresAnswer
 returns c =
     let a = c .before .before .before .args in
     let faulty : soundTable (a .dh) (a .step) (a .table .now) ≡ false = sym (c .before .is-sound-table .ensures) ∙ not-true _ (c .if1 .taken) in
-    simp faulty
+    litres-told _ _ _ _ (simp faulty)
 
 returns-2 : tie.Need-returns-2
 unfolding litresAnswer
 returns-2 c =
     let a = c .before .before .before .before .before .args in
-    simp (fine (c .before .before), lt-leb (dipUnits (a .height)) (a .dh) (omega (arith, c .before .units .ensures)))
+    litres-told _ _ _ _ (simp (fine (c .before .before), lt-leb (dipUnits (a .height)) (a .dh) (omega (arith, c .before .units .ensures))))
 
 litres-inside-requires : tie.Need-litres-inside-requires
 litres-inside-requires c κs = (sound _ _ _ (fine (c .before .before)), omega arith)
@@ -39,8 +41,8 @@ unfolding litresAnswer
 returns-3 c =
     let a = c .before .before .before .before .before .before .before .args in
     let height = c .before .before .before .units .ensures in
-    simp (fine (c .before .before .before .before), le-leb (dipUnits (a .height)) (a .dh) (omega (arith, height)))
-    (ap Litres (c .of .ensures ∙ ap volume (c .before .litres-inside .ensures ∙ ap (litres (a .dh) (a .step) (a .table .now)) height)))
+    litres-told _ _ _ _ (simp (fine (c .before .before .before .before), le-leb (dipUnits (a .height)) (a .dh) (omega (arith, height)))
+    (ap Litres (c .of .ensures ∙ ap volume (c .before .litres-inside .ensures ∙ ap (litres (a .dh) (a .step) (a .table .now)) height))))
 
 pub litres-at-spec : {M : Type 1} → statement M
 litres-at-spec =

@@ -5,7 +5,7 @@ use Rattle.refusal.specs.Test.{verdict, firstRefusal}
 use Rattle.table.specs.Rows.{rowsIn, cellOf}
 use Rattle.table.specs.Tests.{tableTests}
 use Rattle.table.specs.Answer.{leftBy, answerBy, made, tableLeft}
-use Rattle.table.specs.Condition3Laws.{condition3-left}
+use Rattle.table.specs.Condition3Laws.{net-rows-left, condition3-left}
 use borrow.Author.Needs.{needs}
 use Rattle.table.proofs.make.tabulate.Statement.{statement}
 use Rattle.table.proofs.make.tabulate.Tie as tie
@@ -22,7 +22,7 @@ returns c =
     let v = c .before .before .before .before .before .args .file .survey in
     let table = c .before .before .before .before .before .args .table .now in
     let refused = ap (λ w. firstRefusal w (verdict (tableTests v (length table)))) (c .before .verdict .given .1) in
-    (sym (ap (λ w. answerBy w v) refused), (sym (ap (λ w. leftBy w (cellOf v) (rowsIn v) table) refused), tt))
+    (sym (ap (λ w. answerBy w v) refused), (sym (ap (λ w. leftBy w (cellOf v) (rowsIn v) table) refused), (tt, tt)))
 
 returns-2 : tie.Need-returns-2
 unfolding made tableLeft
@@ -34,7 +34,8 @@ returns-2 c =
     let judged = c .before .before .before .fill .ensures .0 ∙ sym on in
     let given = c .answer .ensures ∙ ap (λ w. answerBy w v) judged in
     let left = c .before .before .before .fill .ensures .1 ∙ ap (λ w. leftBy w (cellOf v) (rowsIn v) table) judged in
-    (given, (left, rw (given, left) (condition3-left file table (c .before .before .before .before .before .before .before .before .before .pre))))
+    let within = c .before .before .before .before .before .before .before .before .before .pre in
+    (given, (left, (rw (given, left) (net-rows-left file table), rw (given, left) (condition3-left file table within))))
 
 pub tabulate-spec : {M : Type 1} → statement M
 tabulate-spec =

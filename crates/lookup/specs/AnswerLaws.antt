@@ -1,0 +1,86 @@
+-- What the answers of the lookups say outright: a volume is on the table, a height is the lowest, and refusals 12 and 13 are given exactly
+-- when the height is above DH, or the last row below the volume. Assumes nothing.
+use Prim.Native.Nat.{ℕ, _-_, _<_}
+use mathlib.Core.Path.{_≡_, refl, ap}
+use mathlib.Core.Bool.{true}
+use mathlib.Core.List.{List, [], _∷_}
+use native.Mathlib.Omega.{arith}
+use borrow.Author.Tests.{lt-leb, leb-true, leb-false}
+use lib.Dec.{leb}
+use Rattle.laws.specs.BoolLaws.{by-test}
+use Rattle.laws.specs.Exactly.{Exactly, exactly-when}
+use Rattle.refusal.specs.declared.Verdict.{Verdict}
+use Rattle.refusal.specs.declared.Verdict.the-variants.{Passed, Refused}
+use Rattle.refusal.specs.Test.{refusal, test, verdict}
+use Rattle.refusal.specs.TestLaws.{second-refused}
+use Rattle.schedule.specs.Rows.{rowCount}
+use Rattle.lookup.specs.declared.litres.LitresAnswer.{LitresAnswer}
+use Rattle.lookup.specs.declared.height.HeightAnswer.{HeightAnswer}
+use Rattle.lookup.specs.Table.{row, soundTable}
+use Rattle.lookup.specs.TableLaws.{sound}
+use Rattle.lookup.specs.Litres.{litres}
+use Rattle.lookup.specs.LitresLaws.{on-table, litres-at-top}
+use Rattle.lookup.specs.Height.{heightFor}
+use Rattle.lookup.specs.HeightLaws.{reached}
+use Rattle.lookup.specs.Answer.{litresBy, litresAnswer, ReadOff, TooHigh, heightBy, heightAnswer, Reached, TooMuch}
+
+module _ (dh step : ℕ) (table : List ℕ) where
+  pub read-off : (h : ℕ) → ReadOff dh step table h (litresAnswer dh step table h)
+  unfolding litresAnswer
+  read-off h =
+      by-test (soundTable dh step table)
+      (λ e. by-test (leb h dh) (λ f. rw (e, f) (on-table dh step table (sound dh step table e) h (leb-true h dh f))) (λ f. rw (e, f) tt))
+      (λ e. rw e tt)
+
+  pub reached-answer : (w : ℕ) → Reached dh step table w (heightAnswer dh step table w)
+  unfolding heightAnswer
+  reached-answer w =
+      let last = row table (rowCount dh step - 1) in
+      by-test (soundTable dh step table)
+      (λ e.
+      by-test (leb w last)
+      (λ f. rw (e, f) (reached (rw (litres-at-top dh step table (sound dh step table e)) (leb-true w last f))))
+      (λ f. rw (e, f) tt))
+      (λ e. rw e tt)
+
+  -- what an answer says of the refusal of a number above its limit, and neither of refusal 11 nor where nothing is refused
+  pub above-limit : (said : Verdict → Type 0) (number x limit : ℕ)
+      → (said Passed → ⊥) → (said (Refused (refusal 11 0)) → ⊥) → said (Refused (refusal number 0))
+      → Exactly (said (verdict (test 11 0 (soundTable dh step table) ∷ test number 0 (leb x limit) ∷ []))) ((soundTable dh step table ≡ true) × (limit < x))
+  above-limit said number x limit p q r =
+      exactly-when (second-refused said 11 number 0 0 p q r (soundTable dh step table) (leb x limit))
+      (λ h. (h .0, leb-false x limit (h .1)))
+      (λ h. (h .0, lt-leb x limit (h .1)))
+
+  pub refused-too-high : (h : ℕ) → Exactly (litresAnswer dh step table h ≡ LitresAnswer.Refused (refusal 12 0)) (TooHigh dh step table h)
+  unfolding litresAnswer
+  refused-too-high h =
+      above-limit (λ v. litresBy v (litres dh step table h) ≡ LitresAnswer.Refused (refusal 12 0)) 12 h dh
+      (λ e. let z : _≡_ {A = ℕ} 0 12 = ap number e in omega arith)
+      (λ e. let z : _≡_ {A = ℕ} 11 12 = ap number e in omega arith)
+      refl
+    where
+      number : LitresAnswer → ℕ
+      number (LitresAnswer.Litres v) = 0
+      number (LitresAnswer.Refused r) = r .number
+
+  pub refused-too-much : (w : ℕ) → Exactly (heightAnswer dh step table w ≡ HeightAnswer.Refused (refusal 13 0)) (TooMuch dh step table w)
+  unfolding heightAnswer
+  refused-too-much w =
+      above-limit (λ v. heightBy v (heightFor dh step table w) ≡ HeightAnswer.Refused (refusal 13 0)) 13 w _
+      (λ e. let z : _≡_ {A = ℕ} 0 13 = ap number e in omega arith)
+      (λ e. let z : _≡_ {A = ℕ} 11 13 = ap number e in omega arith)
+      refl
+    where
+      number : HeightAnswer → ℕ
+      number (HeightAnswer.Height h) = 0
+      number (HeightAnswer.Refused r) = r .number
+
+  -- so the answer alone tells all that a lookup promises
+  pub litres-told : (h : ℕ) {r : LitresAnswer} → r ≡ litresAnswer dh step table h
+      → (r ≡ litresAnswer dh step table h) × (ReadOff dh step table h r × Exactly (r ≡ LitresAnswer.Refused (refusal 12 0)) (TooHigh dh step table h))
+  litres-told h e = (e, rw e (read-off h, refused-too-high h))
+
+  pub height-told : (w : ℕ) {r : HeightAnswer} → r ≡ heightAnswer dh step table w
+      → (r ≡ heightAnswer dh step table w) × (Reached dh step table w r × Exactly (r ≡ HeightAnswer.Refused (refusal 13 0)) (TooMuch dh step table w))
+  height-told w e = (e, rw e (reached-answer w, refused-too-much w))
