@@ -1,7 +1,7 @@
 -- Laws of finite sums: comparison, addition, scaling, splitting, summing by blocks, and bounds. Assumes nothing.
 use Prim.Native.Nat.{ℕ, zero, suc, _+_, _*_, _≤_, _<_}
 use mathlib.Core.Path.{_≡_, refl, sym, _∙_, ap}
-use native.Mathlib.Nat.{le-refl, le-step, lt-suc-self, add-le-add, add-assoc, add-zero, add-suc, mul-zero, mul-add, zero-mul, suc-mul, le-of-eq}
+use native.Mathlib.Nat.{le-refl, le-step, le-dest, lt-suc-self, add-le-add, add-assoc, add-zero, add-suc, mul-zero, mul-add, zero-mul, suc-mul, le-of-eq}
 use native.Mathlib.Omega.{arith}
 use Rattle.laws.specs.Sum.{sum}
 
@@ -39,6 +39,10 @@ pub sum-split : (m n : ℕ) (f : ℕ → ℕ) → sum (m + n) f ≡ sum m f + su
 unfolding sum
 sum-split m zero f = rw (add-zero, add-zero)
 sum-split m (suc n) f = rw add-suc (ap (λ (s : ℕ). s + f (m + n)) (sum-split m n f) ∙ add-assoc (sum m f) (sum n (λ k. f (m + k))) (f (m + n)))
+
+-- with more terms it is no smaller
+pub sum-mono : (m n : ℕ) (f : ℕ → ℕ) → m ≤ n → sum m f ≤ sum n f
+sum-mono m n f l = let (t, p) = le-dest l in rw (← p, sum-split m t f) (omega arith)
 
 -- what rises by at least its term in each step rises by at least the sum, and likewise for at most
 pub sum-below : (n : ℕ) (f g : ℕ → ℕ) → ((k : ℕ) → k < n → g k + f k ≤ g (suc k)) → g 0 + sum n f ≤ g n
