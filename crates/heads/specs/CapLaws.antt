@@ -1,5 +1,6 @@
 -- The polynomial x²(3m - 2x) in the volume of half-ellipsoid heads of diameter m: the chord's square at two levels tells how it
--- grows from one to the other, it scales with the diameter, and it never exceeds m³. Assumes nothing.
+-- grows from one to the other, so that it never falls up to level m, it scales with the diameter, and it never exceeds m³. Assumes
+-- nothing.
 use Prim.Native.Nat.{ℕ, _+_, _*_, _-_, _≤_, _<_}
 use mathlib.Core.Path.{_≡_, refl}
 use native.Mathlib.Nat.{le-dest, mul-le-mul-left, mul-sub, mul-zero, zero-mul}
@@ -64,3 +65,9 @@ module _ (m a b t r : ℕ) (up : a + t ≡ b) (top : b + r ≡ m) where
 
   pub at-middle : 3 * chordSquare m a + 3 * chordSquare m b + 4 * (t * t) ≤ 6 * (m * m)
   at-middle = rw (lower, upper, ← top, ← up) (omega (arith, four-products a r))
+
+pub cap-mono : (m a b : ℕ) → a ≤ b → b ≤ m → cap m a ≤ cap m b
+cap-mono m a b l top =
+    let (t, up) = le-dest l in
+    let (r, rest) = le-dest top in
+    omega (arith, cap-step m a b t r up rest)

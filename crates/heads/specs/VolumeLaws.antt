@@ -1,10 +1,11 @@
--- The volume of heads by its polynomial, and what no heads within the limits exceed. Assumes nothing.
+-- The volume of heads by its polynomial: it never falls as the height grows, and what no heads within the limits exceed. Assumes
+-- nothing.
 use Prim.Native.Nat.{ℕ, _*_, _-_, _≤_, _<_}
 use mathlib.Core.Path.{_≡_, refl}
-use native.Mathlib.Nat.{le-refl, le-trans, mul-le-mul, mul-assoc}
+use native.Mathlib.Nat.{le-refl, le-trans, mul-le-mul, mul-le-mul-left, mul-assoc}
 use native.Mathlib.Omega.{arith}
 use Rattle.laws.specs.Nearest.{nearest}
-use Rattle.laws.specs.NearestLaws.{nearest-at-most}
+use Rattle.laws.specs.NearestLaws.{nearest-mono, nearest-at-most}
 use Rattle.measure.specs.Diameter.{largest}
 use Rattle.measure.specs.Quantity.{cubicPerV}
 use Rattle.measure.specs.Pi.{piOver, piUnder}
@@ -12,12 +13,19 @@ use Rattle.heads.specs.declared.kind.HeadKind.{HeadKind}
 use Rattle.heads.specs.declared.kind.HeadKind.the-variants.{Flat, HalfEllipsoid}
 use Rattle.heads.specs.Length.{longest}
 use Rattle.heads.specs.Volume.{headsVolume}
-use Rattle.heads.specs.CapLaws.{cap, cap-at-most}
+use Rattle.heads.specs.CapLaws.{cap, cap-at-most, cap-mono}
 
 pub volume-by-cap : (d l h : ℕ)
     → headsVolume HalfEllipsoid d l h ≡ nearest (piOver * l * cap d h) (piUnder * (3 * d) * cubicPerV)
 unfolding headsVolume cap
 volume-by-cap d l h = rw (mul-assoc (piOver * l) (h * h) (3 * d - 2 * h)) refl
+
+pub heads-mono : (kind : HeadKind) (d l h h′ : ℕ) → 0 < d → h ≤ h′ → h′ ≤ d → headsVolume kind d l h ≤ headsVolume kind d l h′
+unfolding headsVolume
+heads-mono Flat d l h h′ d-low up h-high = le-refl 0
+heads-mono HalfEllipsoid d l h h′ d-low up h-high =
+    rw (volume-by-cap d l h, volume-by-cap d l h′)
+    (nearest-mono _ _ (piUnder * (3 * d) * cubicPerV) (omega arith) (mul-le-mul-left (piOver * l) (cap-mono d h h′ up h-high)))
 
 -- the polynomial of the largest heads
 pub cap-limit : (d l h : ℕ) → h ≤ d → d ≤ largest → l ≤ longest → l * cap d h ≤ longest * (largest * largest * d)
