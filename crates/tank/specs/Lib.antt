@@ -8,6 +8,7 @@ pub mod Condition3
 pub mod CylinderLaws
 pub mod PartLaws
 pub mod TankLaws
+pub mod RiseLaws
 pub mod FillingLaws
 pub mod TurnLaws
 pub mod CellLaws
