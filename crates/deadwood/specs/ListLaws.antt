@@ -1,15 +1,15 @@
--- A list of deadwood items within its limits: its shares and their sums are small. And at the bottom no list takes anything.
--- Assumes nothing.
+-- A list of deadwood items within its limits: its shares and their sums are small. At the bottom no list takes anything, and an empty
+-- list nowhere. Assumes nothing.
 use mathlib.Core.Path.{_≡_, refl}
 use Prim.Native.Nat.{ℕ, zero, suc, _+_, _*_, _≤_, _<_}
-use mathlib.Core.List.{List}
+use mathlib.Core.List.{List, []}
 use native.Mathlib.Nat.{mul-le-mul, le-refl, le-trans}
 use native.Mathlib.Omega.{arith}
 use lib.IntN.{ℤ, pos, natAbs}
 use lib.ListN.{length}
 use lib.Signed.{mag}
 use Rattle.laws.specs.Signed.{sumℤ}
-use Rattle.laws.specs.SignedLaws.{sumℤ-size}
+use Rattle.laws.specs.SignedLaws.{sumℤ-zero, sumℤ-size}
 use Rattle.measure.specs.Quantity.{dipUnits}
 use Rattle.deadwood.specs.declared.item.Deadwood.{Deadwood}
 use Rattle.deadwood.specs.Item.{mostItems, largestVolume, itemAt}
@@ -47,3 +47,7 @@ sum-of-nothing (suc n) f none = rw (sum-of-nothing n f none, none n)
 pub no-shares-at-bottom : (items : List Deadwood) → sharesOf items 0 ≡ pos 0
 unfolding sharesOf
 no-shares-at-bottom items = sum-of-nothing (length items) (shareIn items 0) (λ i. no-share-at-bottom (itemAt items i))
+
+pub no-shares-of-none : (h : ℕ) → sharesOf [] h ≡ pos 0
+unfolding sharesOf
+no-shares-of-none h = sumℤ-zero (shareIn [] h)

@@ -8,4 +8,5 @@ pub mod RowLaws
 pub mod RowTestLaws
 pub mod AnswerLaws
 pub mod BelowZeroLaws
+pub mod NoDeadwoodLaws
 pub mod Condition3Laws

@@ -1,0 +1,50 @@
+-- A survey without deadwood: its net rows are its gross rows, so none falls below the row before and none is below zero. Where it passes
+-- refusals 1 to 8 it is therefore answered with a table. Assumes nothing.
+use Prim.Native.Nat.{ℕ, zero, suc, _≤_}
+use mathlib.Core.Path.{_≡_, refl, _∙_}
+use mathlib.Core.Bool.{true}
+use native.Mathlib.Numerals.{add-one}
+use native.Mathlib.Omega.{arith}
+use borrow.Author.Tests.{le-leb}
+use lib.IntN.{pos, +ℤ-idr}
+use Rattle.measure.specs.Quantity.{diameterUnits}
+use Rattle.refusal.specs.declared.Verdict.the-variants.{Passed}
+use Rattle.refusal.specs.Test.{verdict, items}
+use Rattle.refusal.specs.TestLaws.{all-passed}
+use Rattle.schedule.specs.RowsLaws.{height-next}
+use Rattle.tank.specs.Tank.{grossAt}
+use Rattle.tank.specs.RiseLaws.{gross-mono}
+use Rattle.deadwood.specs.ListLaws.{no-shares-of-none}
+use Rattle.survey.specs.declared.decode.Decoded.{Decoded}
+use Rattle.survey.specs.declared.decode.Survey.{Survey}
+use Rattle.survey.specs.SurveyLaws.{SurveyLimits, WithinLimits}
+use Rattle.table.specs.declared.make.Made.{Made}
+use Rattle.table.specs.Rows.{netAt, rowsIn, heightOf, netRow}
+use Rattle.table.specs.Tests.{keepsUp, fallTest, tableTests}
+use Rattle.table.specs.BelowZeroLaws.{tenth-never-given}
+use Rattle.table.specs.Answer.{made}
+
+pub net-is-gross : (v : Survey) → v .count ≡ 0 → (h : ℕ) → netAt v h ≡ pos (grossAt (v .tank) h)
+unfolding netAt
+net-is-gross v no-items h = rw (no-items, no-shares-of-none h) (+ℤ-idr _)
+
+module _ (v : Survey) (limits : SurveyLimits v) (no-items : v .count ≡ 0) where
+  keeps-up : (i : ℕ) → keepsUp (netRow v) i ≡ true
+  keeps-up zero = refl
+  keeps-up (suc i) =
+      let up = rw add-one at (height-next (diameterUnits (v .tank .dh)) (v .step) (omega arith) i) in
+      rw (net-is-gross v no-items (heightOf v i), net-is-gross v no-items (heightOf v (suc i)))
+      (le-leb _ _ (gross-mono (v .tank) (limits .tank) (heightOf v i) (heightOf v (suc i)) up))
+
+  none-fall : verdict (items (rowsIn v) (fallTest (netRow v))) ≡ Passed
+  none-fall = all-passed (rowsIn v) (fallTest (netRow v)) (λ i l. rw (keeps-up i))
+
+  pub no-deadwood-passed : (cells : ℕ) → rowsIn v ≤ cells → verdict (tableTests v cells) ≡ Passed
+  no-deadwood-passed cells room = tenth-never-given v cells ∙ rw (le-leb (rowsIn v) cells room, none-fall)
+
+pub no-deadwood-answered : (file : Decoded) (cells : ℕ) → WithinLimits file → file .verdict ≡ Passed → file .survey .count ≡ 0
+    → rowsIn (file .survey) ≤ cells
+    → made file cells ≡ Made.Table (file .survey .tank .d1) (file .survey .tank .d2) (rowsIn (file .survey))
+unfolding made
+no-deadwood-answered file cells within e no-items room =
+    rw (e, no-deadwood-passed (file .survey) (within e) no-items cells room)
