@@ -1,24 +1,19 @@
 -- Document 01, 'Readings off the stick': the readings marked P, as one table of what a rule gives and what the paper says, and the
--- proof that each line holds, which is a computation. And what the example survey comes to, as far as it computes: no test of the file
--- refuses it, and it has six rows. Assumes nothing.
+-- proof that each line holds, which is a computation. Assumes nothing.
 use Prim.Native.Nat.{ℕ, _+_, _*_}
-use mathlib.Core.Path.{_≡_, refl, ap}
+use mathlib.Core.Path.{_≡_, refl}
 use mathlib.Core.List.{List, [], _∷_}
 use lib.IntN.{ℤ, pos, negsuc}
 use Rattle.laws.specs.Root.{root}
 use Rattle.laws.specs.Nearest.{nearest}
 use Rattle.laws.specs.Half.{halfDifference}
-use Rattle.measure.specs.Quantity.{diameterUnits}
 use Rattle.schedule.specs.Rows.{rowCount}
 use Rattle.circle.specs.Circle.{chord, chordSquare}
 use Rattle.heads.specs.declared.kind.HeadKind.the-variants.{HalfEllipsoid}
 use Rattle.heads.specs.Volume.{headsVolume}
 use Rattle.deadwood.specs.Item.{deadwood}
 use Rattle.deadwood.specs.Share.{shareSize, share}
-use Rattle.refusal.specs.declared.Verdict.the-variants.{Passed}
 use Rattle.survey.specs.Dimensions.{outerDiameter}
-use Rattle.survey.specs.Survey.{decoded}
-use Rattle.survey.specs.ExampleLaws.{sixRows, six-rows-decoded}
 
 -- what the rule gives, and what the paper says; both with a sign
 pub record Reading : Type 0 where
@@ -57,11 +52,3 @@ readings =
 pub readings-hold : Holds readings
 unfolding root chord chordSquare nearest outerDiameter headsVolume shareSize share rowCount
 readings-hold = (refl, (refl, (refl, (refl, (refl, (refl, (refl, (refl, (refl, (refl, (refl, (refl, (refl, tt)))))))))))))
-
--- a program that refuses everything, or gives another row count, answers the example survey falsely
-pub example-accepted : decoded sixRows .verdict ≡ Passed
-example-accepted = ap (λ file. file .verdict) six-rows-decoded
-
-pub example-rows : rowCount (diameterUnits (decoded sixRows .survey .tank .dh)) (decoded sixRows .survey .step) ≡ 6
-unfolding rowCount
-example-rows = ap (λ file. rowCount (diameterUnits (file .survey .tank .dh)) (file .survey .step)) six-rows-decoded
