@@ -1,3 +1,6 @@
--- Document 01's readings that are marked P, and its example survey.
+-- Readings that the prover computes: document 01's that are marked P, those of the slabs, and its example survey.
+pub mod Reading
+pub mod HoldLaws
 pub mod ReadingLaws
+pub mod SlabReadingLaws
 pub mod ExampleLaws

@@ -9,3 +9,4 @@ pub mod VolumeLaws
 pub mod Slabs
 pub mod SectionLaws
 pub mod SlabsLaws
+pub mod CutLaws

@@ -44,7 +44,7 @@ module _ (d h n : ℕ) (h-high : h ≤ d) where
       let s = chordSquare m in
       let up : a + h ≡ b = omega arith in
       let sections = larger-face (λ z. 3 * s a + 3 * s b + 4 * (h * h) ≤ 6 * z) s (m * m) d h n i
-      (at-middle m a b h r up top)
+      (λ low high. at-middle m a b h r up top)
       (λ low. omega (arith, below-middle m a b h r up top low))
       (λ high. omega (arith, above-middle m a b h r up top high)) in
       rw (← add-one i) (omega (arith, cap-step m a b h r up top, mul-le-mul-left h sections))

@@ -13,8 +13,9 @@ pub smaller-le-upper : (f : ℕ → ℕ) (h i : ℕ) → smallerFace f h i ≤ f
 unfolding smallerFace
 smaller-le-upper f h i = min-le-right (f (h * i)) (f (h * (i + 1)))
 
--- what the larger face can be
-pub larger-face : (P : ℕ → Type 0) (f : ℕ → ℕ) (middle d h n i : ℕ) → P middle
+-- what the larger face can be, and where the slab then lies
+pub larger-face : (P : ℕ → Type 0) (f : ℕ → ℕ) (middle d h n i : ℕ)
+    → (2 * (h * i) ≤ n * d → n * d ≤ 2 * (h * (i + 1)) → P middle)
     → (2 * (h * (i + 1)) < n * d → P (max (f (h * i)) (f (h * (i + 1)))))
     → (n * d < 2 * (h * i) → P (max (f (h * i)) (f (h * (i + 1)))))
     → P (largerFace f middle d h n i)
@@ -23,6 +24,6 @@ larger-face P f middle d h n i at-middle under over =
     by-order (2 * (h * i)) (n * d)
     (λ low.
     by-order (n * d) (2 * (h * (i + 1)))
-    (λ high. rw (le-leb (2 * (h * i)) (n * d) low, le-leb (n * d) (2 * (h * (i + 1))) high) at-middle)
+    (λ high. rw (le-leb (2 * (h * i)) (n * d) low, le-leb (n * d) (2 * (h * (i + 1))) high) (at-middle low high))
     (λ high. rw (le-leb (2 * (h * i)) (n * d) low, lt-leb (n * d) (2 * (h * (i + 1))) high) (under high)))
     (λ high. rw (lt-leb (2 * (h * i)) (n * d) high) (over high))

@@ -7,7 +7,7 @@ use native.Mathlib.Omega.{arith}
 use Rattle.laws.specs.Sum.{sum}
 use Rattle.laws.specs.SumLaws.{sum-at-least, sum-at-most}
 use Rattle.circle.specs.Circle.{chordSquare, chord}
-use Rattle.circle.specs.ChordLaws.{rises, falls, chord-square, chord-next-square, le-chord, chord-lt, chord-widest, chordSquare-scale}
+use Rattle.circle.specs.ChordLaws.{rises, falls, chord-next-square, chord-lt, chord-mono, chord-finer, chord-widest, chordSquare-scale}
 
 unfoldable pub cell : (d n y : ℕ) → ℕ
 cell d n y = sum n (λ j. chord (n * d) (y * n + j))
@@ -19,9 +19,7 @@ pub record Between (d n y narrow wide : ℕ) : Type 0 where
 
 module _ (d n : ℕ) (some : 0 < n) where
   finer-at-least : (y k : ℕ) → chordSquare (n * d) (n * y) ≤ chordSquare (n * d) k → n * chord d y ≤ chord (n * d) k
-  finer-at-least y k h =
-      le-chord (n * chord d y) (n * d) k (le-trans (rw chordSquare-scale
-      (omega (arith, mul-le-mul-left (n * n) (chord-square d y)))) h)
+  finer-at-least y k h = le-trans (chord-finer n d y) (chord-mono (n * d) (n * y) k h)
 
   finer-at-most : (y k : ℕ) → chordSquare (n * d) k ≤ chordSquare (n * d) (n * y) → chord (n * d) k ≤ n * (chord d y + 1)
   finer-at-most y k h =

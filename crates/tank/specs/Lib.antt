@@ -10,9 +10,10 @@ pub mod PartLaws
 pub mod TankLaws
 pub mod RiseLaws
 pub mod FillingLaws
-pub mod TurnLaws
 pub mod CellLaws
 pub mod LevelLaws
 pub mod WidthLaws
 pub mod CylinderSlabsLaws
+pub mod CylinderCutLaws
 pub mod Condition3Laws
+pub mod TotalLaws

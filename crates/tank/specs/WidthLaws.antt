@@ -3,30 +3,23 @@
 use Prim.Native.Nat.{ℕ, _+_, _*_, _≤_, _<_}
 use native.Mathlib.Nat.{le-trans, le-max-left, le-max-right}
 use native.Mathlib.Omega.{arith}
-use Rattle.laws.specs.OrderLaws.{by-order}
 use Rattle.circle.specs.Circle.{chord, chordUp}
-use Rattle.circle.specs.ChordLaws.{rises, falls, chord-mono, chord-widest, chord-le-chordUp}
+use Rattle.circle.specs.ChordLaws.{rises, falls, chord-between, chord-widest, chord-le-chordUp}
 use Rattle.slabs.specs.Slab.{smallerFace, largerFace}
-use Rattle.slabs.specs.FaceLaws.{smaller-le-lower, smaller-le-upper, larger-face}
+use Rattle.slabs.specs.FaceLaws.{larger-face}
 
 -- slab i and the level j above its lower face
 module _ (d h n i j : ℕ) (inside : j < h) where
   pub fitting-le-chord : smallerFace (chord (n * d)) h i ≤ chord (n * d) (i * h + j)
-  fitting-le-chord =
-      let m = n * d in
-      let k = i * h + j in
-      by-order (h * i + k) m
-      (λ low. le-trans (smaller-le-lower (chord m) h i) (chord-mono m (h * i) k (rises m (h * i) k (omega arith) low)))
-      (λ high.
-      le-trans (smaller-le-upper (chord m) h i)
-      (chord-mono m (h * (i + 1)) k (falls m k (h * (i + 1)) (omega arith) (omega arith))))
+  unfolding smallerFace
+  fitting-le-chord = chord-between (n * d) (h * i) (i * h + j) (h * (i + 1)) (omega arith) (omega arith)
 
   pub chord-le-covering : chord (n * d) (i * h + j) ≤ largerFace (chordUp (n * d)) (n * d) d h n i
   chord-le-covering =
       let m = n * d in
       let k = i * h + j in
       larger-face (λ w. chord m k ≤ w) (chordUp m) m d h n i
-      (chord-widest m k)
+      (λ low high. chord-widest m k)
       (λ low.
       le-trans (chord-le-chordUp m k (h * (i + 1)) (rises m k (h * (i + 1)) (omega arith) (omega arith))) (le-max-right _ _))
       (λ high. le-trans (chord-le-chordUp m k (h * i) (falls m (h * i) k (omega arith) (omega arith))) (le-max-left _ _))
