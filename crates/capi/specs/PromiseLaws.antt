@@ -1,6 +1,7 @@
 -- The library's own statements say what the plain numbers promise. Assumes nothing.
-use Prim.Native.Nat.{ℕ}
+use Prim.Native.Nat.{ℕ, _≤_, _<_}
 use mathlib.Core.Path.{_≡_, refl}
+use mathlib.Core.Bool.{true}
 use mathlib.Core.List.{List}
 use native.Mathlib.Omega.{arith}
 use Rattle.laws.specs.Exactly.{Exactly}
@@ -10,10 +11,13 @@ use Rattle.survey.specs.declared.decode.Decoded.{Decoded}
 use Rattle.survey.specs.declared.decode.Survey.{Survey}
 use Rattle.table.specs.Answer.{made, answerBy, verdictOn}
 use Rattle.table.specs.Condition3.{EveryRow}
+use Rattle.lookup.specs.Table.{soundTable}
 use Rattle.lookup.specs.Litres.{litres}
 use Rattle.lookup.specs.Height.{heightFor}
 use Rattle.lookup.specs.Answer.{litresBy, litresAnswer, ReadOff, TooHigh, heightBy, heightAnswer, Reached, TooMuch}
-use Rattle.lookup.specs.AnswerLaws.{above-limit}
+use Rattle.lookup.specs.AnswerLaws.{above-limit, read-off-only, reached-only}
+use Rattle.capi.specs.declared.numbers.LitresNumbers.{LitresNumbers}
+use Rattle.capi.specs.declared.numbers.HeightNumbers.{HeightNumbers}
 use Rattle.capi.specs.Numbers.{tableNumbers, litresNumbers, heightNumbers}
 use Rattle.capi.specs.Promises.{EveryCounted, OnTableAnswered, LowestAnswered}
 use Rattle.capi.specs.RefusalLaws.{litres-answered, height-answered}
@@ -53,3 +57,16 @@ module _ (dh step : ℕ) (table : List ℕ) where
   unfolding heightAnswer
   number-13 w =
       above-limit dh step table (λ v. heightNumbers (heightBy v (heightFor dh step table w)) .refusal ≡ 13) 13 w _ (λ e. omega arith) (λ e. omega arith) refl
+
+  -- what is promised leaves no other figure
+  pub on-table-only : (h : ℕ) (r : LitresNumbers) → r .refusal ≡ 0 → soundTable dh step table ≡ true → h ≤ dh → OnTableAnswered dh step table h r
+      → r .volume ≡ litres dh step table h
+  on-table-only h r e s l told = read-off-only dh step table h (r .volume) s l (told e)
+
+  pub lowest-only : (w : ℕ) (r : HeightNumbers) → r .refusal ≡ 0 → LowestAnswered dh step table w r → heightFor dh step table w ≡ r .height
+  lowest-only w r e told = reached-only dh step table w (r .height) (told e)
+
+-- a claim about every row counted is one about each
+pub each-counted : (claim : Survey → List ℕ → ℕ → Type 0) (v : Survey) (rows : ℕ) (table : List ℕ) → EveryCounted claim v rows table
+    → (i : ℕ) → i < rows → claim v table i
+each-counted claim v rows table every i l = every i l

@@ -1,6 +1,6 @@
 -- What the answers of the lookups say outright: a volume is on the table, a height is the lowest, and refusals 12 and 13 are given exactly
 -- when the height is above DH, or the last row below the volume. Assumes nothing.
-use Prim.Native.Nat.{ℕ, _-_, _<_}
+use Prim.Native.Nat.{ℕ, _-_, _≤_, _<_}
 use mathlib.Core.Path.{_≡_, refl, ap}
 use mathlib.Core.Bool.{true}
 use mathlib.Core.List.{List, [], _∷_}
@@ -9,6 +9,7 @@ use borrow.Author.Tests.{lt-leb, leb-true, leb-false}
 use lib.Dec.{leb}
 use Rattle.laws.specs.BoolLaws.{by-test}
 use Rattle.laws.specs.Exactly.{Exactly, exactly-when}
+use Rattle.measure.specs.Quantity.{dipHeight, volume}
 use Rattle.refusal.specs.declared.Verdict.{Verdict}
 use Rattle.refusal.specs.declared.Verdict.the-variants.{Passed, Refused}
 use Rattle.refusal.specs.Test.{refusal, test, verdict}
@@ -19,9 +20,9 @@ use Rattle.lookup.specs.declared.height.HeightAnswer.{HeightAnswer}
 use Rattle.lookup.specs.Table.{row, soundTable}
 use Rattle.lookup.specs.TableLaws.{sound}
 use Rattle.lookup.specs.Litres.{litres}
-use Rattle.lookup.specs.LitresLaws.{on-table, litres-at-top}
+use Rattle.lookup.specs.LitresLaws.{on-table, never-falls-only, litres-at-top}
 use Rattle.lookup.specs.Height.{heightFor}
-use Rattle.lookup.specs.HeightLaws.{reached}
+use Rattle.lookup.specs.HeightLaws.{lowest-is, reached}
 use Rattle.lookup.specs.Answer.{litresBy, litresAnswer, ReadOff, TooHigh, heightBy, heightAnswer, Reached, TooMuch}
 
 module _ (dh step : ℕ) (table : List ℕ) where
@@ -84,3 +85,10 @@ module _ (dh step : ℕ) (table : List ℕ) where
   pub height-told : (w : ℕ) {r : HeightAnswer} → r ≡ heightAnswer dh step table w
       → (r ≡ heightAnswer dh step table w) × (Reached dh step table w r × Exactly (r ≡ HeightAnswer.Refused (refusal 13 0)) (TooMuch dh step table w))
   height-told w e = (e, rw e (reached-answer w, refused-too-much w))
+
+  -- and what is promised leaves no other answer
+  pub read-off-only : (h v : ℕ) → soundTable dh step table ≡ true → h ≤ dh → ReadOff dh step table h (LitresAnswer.Litres (volume v)) → v ≡ litres dh step table h
+  read-off-only h v e l told = never-falls-only dh step table (sound dh step table e) h v l told
+
+  pub reached-only : (w h : ℕ) → Reached dh step table w (HeightAnswer.Height (dipHeight h)) → heightFor dh step table w ≡ h
+  reached-only w h told = lowest-is told

@@ -122,3 +122,18 @@ module _ (dh step : ℕ) (table : List ℕ) (s : SoundTable dh step table) where
     no-less-above = λ higher m n. litres-mono h higher m n;
     no-more-below = λ lower m. litres-mono lower h m l;
   }
+
+  -- .. and each part of it leaves no other volume: that litres never fall, at a row, and between two rows
+  pub never-falls-only : (h v : ℕ) → h ≤ dh → OnTable dh step table h v → v ≡ litres dh step table h
+  never-falls-only h v l on = omega (arith, on .no-less-above h (le-refl h) l, on .no-more-below h (le-refl h))
+
+  pub at-row-only : (i v : ℕ) → i < rowCount dh step → OnTable dh step table (rowHeight dh step i) v → v ≡ litres dh step table (rowHeight dh step i)
+  at-row-only i v m on = on .at-row i m refl ∙ sym (litres-at-row i m)
+
+  pub between-only : (i h v : ℕ) → i + 1 < rowCount dh step → rowHeight dh step i ≤ h → h ≤ rowHeight dh step (i + 1) → OnTable dh step table h v
+      → v ≡ litres dh step table h
+  between-only i h v m low high on = on .between i m low high .on-line ∙ sym (between-rows i h m low high .on-line)
+
+-- between equal rows there is one volume
+pub between-equal-rows : (a x y v : ℕ) → BetweenRows a a x y v → v ≡ a
+between-equal-rows a x y v between = omega (arith, between .at-least, between .at-most)

@@ -6,11 +6,11 @@ use native.Mathlib.Nat.{le-antisymm, mul-le-mul-left, mul-pos}
 use native.Mathlib.Omega.{arith}
 use Rattle.slabs.specs.Fraction.{Fraction, whole, _⊕_, _⊑_}
 
-pub same-both-ways : (a b : Fraction) → a ⊑ b → b ⊑ a → a .over * b .under ≡ b .over * a .under
-same-both-ways a b l m = le-antisymm l m
-
 pub whole-order : (m n : ℕ) → whole m ⊑ whole n → m ≤ n
 whole-order m n l = omega arith
+
+pub same-both-ways : (a b : Fraction) → a ⊑ b → b ⊑ a → a .over * b .under ≡ b .over * a .under
+same-both-ways a b l m = le-antisymm l m
 
 pub whole-sum : (m n : ℕ) → whole m ⊕ whole n ≡ whole (m + n)
 whole-sum m n = ap whole {x = m * 1 + n * 1} {y = m + n} (omega arith)

@@ -10,3 +10,4 @@ pub mod AnswerLaws
 pub mod BelowZeroLaws
 pub mod NoDeadwoodLaws
 pub mod Condition3Laws
+pub mod PromiseLaws
