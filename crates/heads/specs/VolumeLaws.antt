@@ -1,11 +1,11 @@
--- The volume of heads by its polynomial: it never falls as the height grows, and what no heads within the limits exceed. Assumes
--- nothing.
+-- The volume of heads by its polynomial: it never falls as the height grows, that of full heads is document 000's formula 30, and what
+-- no heads within the limits exceed. Assumes nothing.
 use Prim.Native.Nat.{ℕ, _*_, _-_, _≤_, _<_}
 use mathlib.Core.Path.{_≡_, refl}
 use native.Mathlib.Nat.{le-refl, le-trans, mul-le-mul, mul-le-mul-left, mul-assoc}
 use native.Mathlib.Omega.{arith}
 use Rattle.laws.specs.Nearest.{nearest}
-use Rattle.laws.specs.NearestLaws.{nearest-mono, nearest-at-most}
+use Rattle.laws.specs.NearestLaws.{nearest-mono, nearest-at-most, nearest-cancel}
 use Rattle.measure.specs.Diameter.{largest}
 use Rattle.measure.specs.Quantity.{cubicPerV}
 use Rattle.measure.specs.Pi.{piOver, piUnder}
@@ -26,6 +26,15 @@ heads-mono Flat d l h h′ d-low up h-high = le-refl 0
 heads-mono HalfEllipsoid d l h h′ d-low up h-high =
     rw (volume-by-cap d l h, volume-by-cap d l h′)
     (nearest-mono _ _ (piUnder * (3 * d) * cubicPerV) (omega arith) (mul-le-mul-left (piOver * l) (cap-mono d h h′ up h-high)))
+
+-- full heads, document 000's formula 30 for both: pi/3 · D² · L
+pub full-heads : (d l : ℕ) → 0 < d → headsVolume HalfEllipsoid d l d ≡ nearest (piOver * l * (d * d)) (piUnder * 3 * cubicPerV)
+unfolding headsVolume
+full-heads d l some =
+    let left : 3 * d - 2 * d ≡ d = omega arith in
+    let over : piOver * l * (d * d) * d ≡ d * (piOver * l * (d * d)) = omega arith in
+    let under : piUnder * (3 * d) * cubicPerV ≡ d * (piUnder * 3 * cubicPerV) = omega arith in
+    rw (left, over, under) (nearest-cancel d (piOver * l * (d * d)) (piUnder * 3 * cubicPerV) some (omega arith))
 
 -- the polynomial of the largest heads
 pub cap-limit : (d l h : ℕ) → h ≤ d → d ≤ largest → l ≤ longest → l * cap d h ≤ longest * (largest * largest * d)

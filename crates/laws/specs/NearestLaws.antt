@@ -1,8 +1,9 @@
--- Laws of `nearest`, by which everything above knows it: it lies within half of the quotient, it never falls as a grows, and it is
--- exact on a multiple. Only `nearest-of-rest` says where a half goes. Assumes nothing.
-use Prim.Native.Nat.{ℕ, _+_, _*_, _/_, _≤_, _<_}
+-- Laws of `nearest`, by which everything above knows it: it lies within half of the quotient, it never falls as a grows, it is exact on
+-- a multiple, and a factor of both numbers cancels. Only `nearest-of-rest` says where a half goes. Assumes nothing.
+use Prim.Native.Nat.{ℕ, _+_, _*_, _/_, _%_, _≤_, _<_}
 use mathlib.Core.Path.{_≡_, sym, _∙_, subst}
-use native.Mathlib.Nat.{le-trans, lt-mul-div-succ, le-div-iff-mul-le, div-mul-le-self, div-eq-of-lt-le, le-of-eq}
+use native.Mathlib.Nat.{le-trans, le-of-eq, mul-le-mul-left, mul-lt-mul-of-pos-left, mod-lt}
+use native.Mathlib.Nat.{lt-mul-div-succ, le-div-iff-mul-le, div-mul-le-self, div-eq-of-lt-le, div-add-mod'}
 use native.Mathlib.Omega.{arith}
 use lib.Dec.{leb}
 use Rattle.laws.specs.Order.{pick}
@@ -44,3 +45,20 @@ nearest-at-most a q b h l = le-trans (nearest-mono a (q * b) b h l) (le-of-eq (n
 
 pub nearest-at-least : (a q b : ℕ) → 0 < b → q * b ≤ a → q ≤ nearest a b
 nearest-at-least a q b h l = le-trans (le-of-eq (sym (nearest-of-multiple q b h))) (nearest-mono (q * b) a b h l)
+
+-- a factor of both numbers cancels
+pub nearest-cancel : (k a b : ℕ) → 0 < k → 0 < b → nearest (k * a) (k * b) ≡ nearest a b
+nearest-cancel k a b k-some b-some =
+    subst (λ (x : ℕ). nearest (k * x) (k * b) ≡ nearest x b) (div-add-mod' a b) (of-rest (a / b) (a % b) (mod-lt a b-some))
+  where
+    of-rest : (q r : ℕ) → r < b → nearest (k * (q * b + r)) (k * b) ≡ nearest (q * b + r) b
+    of-rest q r l =
+        let apart : k * (q * b + r) ≡ q * (k * b) + k * r = omega arith in
+        rw (apart, nearest-of-rest q (k * r) (k * b) (mul-lt-mul-of-pos-left l k-some), nearest-of-rest q r b l)
+        (by-order b (r + r)
+        (λ h.
+        let more : k * b ≤ k * r + k * r = omega (arith, mul-le-mul-left k h) in
+        rw (pick-le (q + 1) q h, pick-le (q + 1) q more))
+        (λ h.
+        let less : k * r + k * r < k * b = omega (arith, mul-lt-mul-of-pos-left h k-some) in
+        rw (pick-gt (q + 1) q h, pick-gt (q + 1) q less)))
