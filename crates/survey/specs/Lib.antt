@@ -1,5 +1,5 @@
 -- The survey file as document 01 gives it: words, layout, sections, limits, dimensions, the ordered tests and the survey that a file
--- holds; then what the tests promise.
+-- holds; then what the tests promise, and that bytes in no section are ignored.
 pub mod Word
 pub mod Layout
 pub mod Limits
@@ -14,4 +14,5 @@ pub mod CourseLaws
 pub mod JudgedLaws
 pub mod SurveyLaws
 pub mod NumberedLaws
+pub mod IgnoredLaws
 pub mod ExampleLaws

@@ -1,6 +1,7 @@
--- What the answer of the call that makes a table tells of the file and of the table that it left. Assumes nothing.
+-- What the answer of the call that makes a table tells of the file and of the table that it left, and that bytes in no section change
+-- neither. Assumes nothing.
 use Prim.Native.Nat.{ℕ}
-use mathlib.Core.Path.{_≡_, refl}
+use mathlib.Core.Path.{_≡_, refl, ap}
 use mathlib.Core.List.{List}
 use native.Mathlib.Omega.{arith}
 use lib.ListN.{length, take, drop}
@@ -11,6 +12,8 @@ use Rattle.refusal.specs.declared.Refusal.{Refusal}
 use Rattle.refusal.specs.declared.Verdict.{Verdict}
 use Rattle.refusal.specs.declared.Verdict.the-variants.{Passed, Refused}
 use Rattle.survey.specs.declared.decode.Decoded.{Decoded}
+use Rattle.survey.specs.Survey.{decoded}
+use Rattle.survey.specs.IgnoredLaws.{SameSections, other-bytes-ignored}
 use Rattle.table.specs.declared.make.Made.{Made}
 use Rattle.table.specs.Rows.{rowsIn, cellOf, tableOf}
 use Rattle.table.specs.Answer.{verdictOn, answerBy, made, tableLeft}
@@ -37,3 +40,11 @@ unfolding tableLeft
 front-is-table file table e =
     let v = file .survey in
     rw e (take-at (tableOf v) (drop (rowsIn v) table) (rowsIn v) (length-rowsOf (cellOf v) (rowsIn v)))
+
+-- files that differ only in bytes of no section get the same answer ..
+pub same-answer : (s s′ : List ℕ) (cells : ℕ) → SameSections s s′ → made (decoded s) cells ≡ made (decoded s′) cells
+same-answer s s′ cells same = ap (λ file. made file cells) (other-bytes-ignored s s′ same)
+
+-- .. and leave the same table
+pub same-table : (s s′ table : List ℕ) → SameSections s s′ → tableLeft (decoded s) table ≡ tableLeft (decoded s′) table
+same-table s s′ table same = ap (λ file. tableLeft file table) (other-bytes-ignored s s′ same)

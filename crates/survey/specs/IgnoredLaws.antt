@@ -1,0 +1,216 @@
+-- Bytes in no section are ignored (document 01, 'The survey file'): two files that agree in the header's bytes and in those of every
+-- section, and whose lengths refusals 1 and 3 find alike, decode to the same. Assumes nothing.
+use Prim.Native.Nat.{ℕ, zero, suc, _+_, _≤_, _<_}
+use mathlib.Core.Path.{_≡_, refl, _∙_, ap, ap₂}
+use mathlib.Core.List.{List, [], _∷_, _++_, List·Memᴰ, List·Memᴰ·head, List·Memᴰ·tail}
+use native.Mathlib.Nat.{mul-le-mul-left}
+use native.Mathlib.Omega.{arith}
+use lib.ListN.{length, getD}
+use Rattle.laws.specs.Fill.{rowsOf}
+use Rattle.laws.specs.FillLaws.{rowsOf-agree}
+use Rattle.refusal.specs.Test.{verdict, test, within}
+use Rattle.refusal.specs.TestLaws.{items-agree}
+use Rattle.heads.specs.Kind.{kindKnown}
+use Rattle.survey.specs.declared.format.Format.{Format}
+use Rattle.survey.specs.declared.section.Section.{Section}
+use Rattle.survey.specs.declared.section.Records.{Records}
+use Rattle.survey.specs.declared.section.Records.the-variants.{Courses, Deadwood}
+use Rattle.survey.specs.Word.{word, signedWord}
+use Rattle.survey.specs.Layout.{today, headerEnd, kindAt, dhAt, l1At, leftAt, rightAt, l2At, l3At, stepAt, coursesAt, deadwoodAt}
+use Rattle.survey.specs.Layout.{courseEnd, itemEnd, firstIn, secondIn, lengthIn, thicknessIn, lowIn, highIn, volumeIn}
+use Rattle.survey.specs.Limits.{largestFile}
+use Rattle.survey.specs.Section.{courses, deadwood, sections, recordAt, endOf, placed}
+use Rattle.survey.specs.SectionLaws.{Readable, recordLong}
+use Rattle.survey.specs.Item.{itemFrom}
+use Rattle.survey.specs.Dimensions.{sumOf, added, sumsOver, sumsOf, shellDiameter, d1, d2}
+use Rattle.survey.specs.Tests.{countTests, apartTests, placeTests, layoutTests, headerTests, numberTests, dimensionTests, fileTests}
+use Rattle.survey.specs.Tests.{courseTests, itemTests, recordTests, sectionTests}
+use Rattle.survey.specs.Survey.{itemsOf, surveyOf, decodedBy, decodedAs, decoded}
+use Rattle.survey.specs.SurveyLaws.{today-readable}
+
+-- two files agree in the bytes from one place up to another
+abbrev pub SameBytes : (s s′ : List ℕ) (start end : ℕ) → Type 0
+SameBytes s s′ start end = (k : ℕ) → start ≤ k → k < end → getD s k 0 ≡ getD s′ k 0
+
+-- two files in a format agree in the header and in each section, in its bytes and in whether it is well placed; and refusal 1 is given
+-- for both or for none
+pub record SameSectionsAs (f : Format) (s s′ : List ℕ) : Type 0 where
+  pub size : within (f .header) (length s) largestFile ≡ within (f .header) (length s′) largestFile
+  pub header : SameBytes s s′ 0 (f .header)
+  pub bytes : (x : Section) → List·Memᴰ x (sections f s) → SameBytes s s′ (x .offset) (endOf x)
+  pub place : (x : Section) → List·Memᴰ x (sections f s) → placed (f .header) (length s) x ≡ placed (f .header) (length s′) x
+
+-- .. and in today's
+abbrev pub SameSections : (s s′ : List ℕ) → Type 0
+SameSections s s′ = SameSectionsAs today s s′
+
+-- bytes that agree give the same words, records, tests and sums
+
+module _ (s s′ : List ℕ) where
+  word-agrees : (start end at : ℕ) → SameBytes s s′ start end → start ≤ at → at + 4 ≤ end → word s at ≡ word s′ at
+  unfolding word
+  word-agrees start end at bytes low high =
+      let third = bytes (at + 2) (omega arith) (omega arith) in
+      let fourth = bytes (at + 3) (omega arith) (omega arith) in
+      cc (bytes at low (omega arith), bytes (at + 1) (omega arith) (omega arith), third, fourth)
+
+  signed-agrees : (at : ℕ) → word s at ≡ word s′ at → signedWord s at ≡ signedWord s′ at
+  unfolding signedWord
+  signed-agrees at e = rw e
+
+  word-of-record : (at long k : ℕ) → SameBytes s s′ at (at + long) → k + 4 ≤ long → word s (at + k) ≡ word s′ (at + k)
+  word-of-record at long k bytes high = word-agrees at (at + long) (at + k) bytes (omega arith) (omega arith)
+
+  course-agrees : (at : ℕ) → SameBytes s s′ at (at + courseEnd) → (courseTests s at ≡ courseTests s′ at) × (sumOf s at ≡ sumOf s′ at)
+  unfolding courseTests sumOf
+  course-agrees at bytes =
+      let first = word-of-record at courseEnd firstIn bytes (omega arith) in
+      let second = word-of-record at courseEnd secondIn bytes (omega arith) in
+      let length = word-of-record at courseEnd lengthIn bytes (omega arith) in
+      let thickness = word-of-record at courseEnd thicknessIn bytes (omega arith) in
+      (cc, cc)
+
+  item-agrees : (at : ℕ) → SameBytes s s′ at (at + itemEnd) → itemFrom s at ≡ itemFrom s′ at
+  item-agrees at bytes =
+      let low = word-of-record at itemEnd lowIn bytes (omega arith) in
+      let high = word-of-record at itemEnd highIn bytes (omega arith) in
+      let volume = signed-agrees (at + volumeIn) (word-of-record at itemEnd volumeIn bytes (omega arith)) in
+      cc
+
+  record-agrees : (records : Records) (at : ℕ) → word s dhAt ≡ word s′ dhAt → SameBytes s s′ at (at + recordLong records)
+      → recordTests records s at ≡ recordTests records s′ at
+  unfolding itemTests
+  record-agrees Courses at dh bytes = course-agrees at bytes .0
+  record-agrees Deadwood at dh bytes = let item = item-agrees at bytes in cc
+
+  -- a section whose bytes agree
+  module _ (x : Section) (bytes : SameBytes s s′ (x .offset) (endOf x)) where
+    record-bytes : (long i : ℕ) → long ≤ x .size → i < x .count → SameBytes s s′ (recordAt x i) (recordAt x i + long)
+    record-bytes long i fits l k low high =
+        let one-more : i + 1 ≤ x .count = omega arith in
+        bytes k (omega arith) (omega (arith, mul-le-mul-left (x .size) one-more))
+
+    section-agrees : recordLong (x .records) ≤ x .size → word s dhAt ≡ word s′ dhAt → sectionTests s x ≡ sectionTests s′ x
+    section-agrees fits dh =
+        items-agree (x .count) _ _ (λ i l. record-agrees (x .records) (recordAt x i) dh (record-bytes (recordLong (x .records)) i fits l))
+
+    sums-agree : courseEnd ≤ x .size → (n : ℕ) → n ≤ x .count → sumsOver s x n ≡ sumsOver s′ x n
+    unfolding sumsOver
+    sums-agree fits zero l = refl
+    sums-agree fits (suc n) l =
+        ap₂ added (sums-agree fits n (omega arith)) (course-agrees (recordAt x n) (record-bytes courseEnd n fits (omega arith)) .1)
+
+-- sections that are placed alike
+places-agree : (header size size′ : ℕ) (xs : List Section) → ((x : Section) → List·Memᴰ x xs → placed header size x ≡ placed header size′ x)
+    → placeTests header size xs ≡ placeTests header size′ xs
+places-agree header size size′ [] alike = refl
+places-agree header size size′ (x ∷ xs) alike =
+    ap₂ (λ passes tests. test 3 0 passes ∷ apartTests x xs ++ tests)
+    (alike x (List·Memᴰ·head refl))
+    (places-agree header size size′ xs (λ y m. alike y (List·Memᴰ·tail m)))
+
+module _ (f : Format) (s s′ : List ℕ) (readable : Readable f) (same : SameSectionsAs f s s′) where
+  header-word : (at : ℕ) → at + 4 ≤ headerEnd → word s at ≡ word s′ at
+  header-word at high = word-agrees s s′ 0 (f .header) at (same .header) (omega arith) (omega (arith, readable .header))
+
+  courses-bytes : SameBytes s s′ (courses f s .offset) (endOf (courses f s))
+  courses-bytes = same .bytes (courses f s) (List·Memᴰ·head refl)
+
+  deadwood-bytes : SameBytes s s′ (deadwood f s .offset) (endOf (deadwood f s))
+  deadwood-bytes = same .bytes (deadwood f s) (List·Memᴰ·tail (List·Memᴰ·head refl))
+
+  same-courses : courses f s ≡ courses f s′
+  same-courses = cc (header-word coursesAt (omega arith), header-word (coursesAt + 4) (omega arith))
+
+  same-deadwood : deadwood f s ≡ deadwood f s′
+  same-deadwood = cc (header-word deadwoodAt (omega arith), header-word (deadwoodAt + 4) (omega arith))
+
+  same-layout : layoutTests f s ≡ layoutTests f s′
+  unfolding layoutTests
+  same-layout =
+      let same-sections : sections f s ≡ sections f s′ = cc (same-courses, same-deadwood) in
+      let same-places = places-agree (f .header) (length s) (length s′) (sections f s) (same .place) in
+      ap₂ _++_
+      (ap₂ _++_ (ap countTests same-sections) (same-places ∙ ap (placeTests (f .header) (length s′)) same-sections))
+      (ap (λ number. test 4 0 (kindKnown number) ∷ []) (header-word kindAt (omega arith)))
+
+  same-header : headerTests s ≡ headerTests s′
+  unfolding headerTests
+  same-header =
+      rw (
+        header-word dhAt (omega arith),
+        header-word l1At (omega arith),
+        header-word leftAt (omega arith),
+        header-word rightAt (omega arith),
+        header-word l2At (omega arith),
+        header-word kindAt (omega arith),
+        header-word l3At (omega arith),
+        header-word stepAt (omega arith),
+      )
+
+  same-numbers : numberTests f s ≡ numberTests f s′
+  same-numbers =
+      let dh = header-word dhAt (omega arith) in
+      ap₂ _++_ same-header
+      (ap₂ (λ first second. first ++ (second ++ []))
+      (section-agrees s s′ (courses f s) courses-bytes (readable .course) dh ∙ ap (sectionTests s′) same-courses)
+      (section-agrees s s′ (deadwood f s) deadwood-bytes (readable .deadwood) dh ∙ ap (sectionTests s′) same-deadwood))
+
+  same-sums : sumsOf f s ≡ sumsOf f s′
+  same-sums =
+      sums-agree s s′ (courses f s) courses-bytes (readable .course) (courses f s .count) (omega arith)
+      ∙ ap (λ (x : Section). sumsOver s′ x (x .count)) same-courses
+
+  same-d1 : d1 f s ≡ d1 f s′
+  same-d1 = ap shellDiameter same-sums
+
+  same-d2 : d2 f s ≡ d2 f s′
+  same-d2 = cc (same-sums, header-word leftAt (omega arith), header-word rightAt (omega arith))
+
+  same-dimensions : dimensionTests f s ≡ dimensionTests f s′
+  unfolding dimensionTests
+  same-dimensions = cc (same-sums, same-d1, same-d2, header-word l1At (omega arith), header-word dhAt (omega arith))
+
+  -- the same tests ..
+  pub same-tests : fileTests f s ≡ fileTests f s′
+  unfolding fileTests
+  same-tests =
+      ap₂ (λ passes tests. test 1 0 passes ∷ tests) (same .size) (ap₂ _++_ same-layout (ap₂ _++_ same-numbers same-dimensions))
+
+  same-items : itemsOf f s ≡ itemsOf f s′
+  same-items =
+      let x = deadwood f s in
+      rowsOf-agree _ _ (x .count)
+      (λ i l. item-agrees s s′ (recordAt x i) (record-bytes s s′ x deadwood-bytes itemEnd i (readable .deadwood) l))
+      ∙ ap (λ (y : Section). rowsOf (λ i. itemFrom s′ (recordAt y i)) (y .count)) same-deadwood
+
+  -- .. and the same survey
+  pub same-survey : surveyOf f s ≡ surveyOf f s′
+  same-survey =
+      let kind = header-word kindAt (omega arith) in
+      let dh = header-word dhAt (omega arith) in
+      let l1 = header-word l1At (omega arith) in
+      let l2 = header-word l2At (omega arith) in
+      let l3 = header-word l3At (omega arith) in
+      let step = header-word stepAt (omega arith) in
+      let count = header-word deadwoodAt (omega arith) in
+      cc (same-d1, same-d2, same-items)
+
+  pub same-decoded : decodedAs f s ≡ decodedAs f s′
+  same-decoded = ap₂ decodedBy (ap verdict same-tests) same-survey
+
+-- bytes in no section are ignored
+pub other-bytes-ignored : (s s′ : List ℕ) → SameSections s s′ → decoded s ≡ decoded s′
+unfolding decoded
+other-bytes-ignored s s′ same = same-decoded today s s′ today-readable same
+
+-- files of the same length need agree in nothing but the bytes of header and sections
+pub same-length : (f : Format) (s s′ : List ℕ) → length s ≡ length s′ → SameBytes s s′ 0 (f .header)
+    → ((x : Section) → List·Memᴰ x (sections f s) → SameBytes s s′ (x .offset) (endOf x))
+    → SameSectionsAs f s s′
+same-length f s s′ size header bytes = record { size = rw size; header = header; bytes = bytes; place = λ x m. rw size }
+
+pub changed-bytes-ignored : (s s′ : List ℕ) → length s ≡ length s′ → SameBytes s s′ 0 headerEnd
+    → ((x : Section) → List·Memᴰ x (sections today s) → SameBytes s s′ (x .offset) (endOf x))
+    → decoded s ≡ decoded s′
+changed-bytes-ignored s s′ size header bytes = other-bytes-ignored s s′ (same-length today s s′ size header bytes)
