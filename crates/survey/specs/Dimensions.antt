@@ -1,5 +1,6 @@
 -- Outer diameter, wall, D1 and D2 (document 01, 'Dimensions'; document 000, 20.1.1 and 20.2), from the sums over the courses. A wall
--- thicker than the diameter leaves 0, which is below every limit. Assumes nothing.
+-- thicker than the diameter leaves 0, which is below every limit; no file that passes refusals 1 to 5 has one (WallLaws).
+-- Assumes nothing.
 use Prim.Native.Nat.{ℕ, zero, suc, _+_, _*_, _-_}
 use mathlib.Core.Bool.{Bool, _&&_}
 use mathlib.Core.List.{List}

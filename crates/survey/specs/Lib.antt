@@ -1,5 +1,5 @@
 -- The survey file as document 01 gives it: words, layout, sections, limits, dimensions, the ordered tests and the survey that a file
--- holds; then what the tests promise, and that bytes in no section are ignored.
+-- holds; then what the tests promise, that no wall is thicker than its tube, and that bytes in no section are ignored.
 pub mod Word
 pub mod Layout
 pub mod Limits
@@ -13,6 +13,7 @@ pub mod SectionLaws
 pub mod CourseLaws
 pub mod JudgedLaws
 pub mod SurveyLaws
+pub mod WallLaws
 pub mod NumberedLaws
 pub mod IgnoredLaws
 pub mod ExampleLaws

@@ -30,14 +30,14 @@ use Rattle.survey.specs.declared.decode.Decoded.{Decoded}
 use Rattle.survey.specs.declared.decode.Survey.{Survey}
 use Rattle.survey.specs.declared.format.Format.{Format}
 use Rattle.survey.specs.Word.{word}
-use Rattle.survey.specs.Layout.{today, kindAt, dhAt, l1At, l2At, l3At, stepAt}
-use Rattle.survey.specs.Limits.{largestFile, shortestShell, farthest}
+use Rattle.survey.specs.Layout.{today, kindAt, dhAt, l1At, leftAt, rightAt, l2At, l3At, stepAt}
+use Rattle.survey.specs.Limits.{largestFile, shortestCircumference, longestCircumference, shortestShell, farthest}
 use Rattle.survey.specs.Section.{courses, deadwood, sections, recordAt}
 use Rattle.survey.specs.SectionLaws.{Readable, Placed, placed-file}
 use Rattle.survey.specs.Item.{itemFrom}
 use Rattle.survey.specs.Dimensions.{d1, d2, diameterFits}
 use Rattle.survey.specs.CourseLaws.{Courses, course-fits}
-use Rattle.survey.specs.Tests.{layoutTests, headerTests, recordTests, itemTests, sectionTests, sectionsTests, numberTests, dimensionTests, fileTests}
+use Rattle.survey.specs.Tests.{layoutTests, headerTests, courseTests, itemTests, sectionTests, sectionsTests, numberTests, dimensionTests, fileTests}
 use Rattle.survey.specs.Survey.{itemsOf, surveyOf, itemsIn, decodedBy, decoded}
 
 -- what a survey that is not refused promises to whoever reads it
@@ -66,6 +66,9 @@ module _ (f : Format) (s : List ℕ) (fit : NumbersFit f s) where
       let both = passed-append (sectionTests s (courses f s)) (sectionTests s (deadwood f s) ++ []) rest in
       (both .0, passed-append (sectionTests s (deadwood f s)) [] (both .1) .0)
 
+  pub course-passes : (i : ℕ) → i < courses f s .count → verdict (courseTests s (recordAt (courses f s) i)) ≡ Passed
+  course-passes i l = passed-items (courses f s .count) (λ k. courseTests s (recordAt (courses f s) k)) (sections-passed .0) i l
+
   pub courses-fit : Courses s (courses f s)
   courses-fit =
       let inside = fit .placed .courses-inside in
@@ -74,7 +77,7 @@ module _ (f : Format) (s : List ℕ) (fit : NumbersFit f s) where
         few = fit .placed .fewCourses;
         long = inside .long;
         inside = inside .inside;
-        each = λ i l. course-fits s (recordAt (courses f s) i) (passed-items (courses f s .count) (λ k. recordTests (courses f s .records) s (recordAt (courses f s) k)) (sections-passed .0) i l);
+        each = λ i l. course-fits s (recordAt (courses f s) i) (course-passes i l);
       }
 
   -- the item whose record is number i
@@ -112,6 +115,14 @@ module _ (f : Format) (s : List ℕ) (fit : NumbersFit f s) where
   pub dh-fits : (smallest ≤ word s dhAt) × (word s dhAt ≤ largest)
   unfolding headerTests
   dh-fits = within-pass smallest (word s dhAt) largest (passed-all (headerTests s) header-passed .0)
+
+  pub ends-fit : (shortestCircumference ≤ word s leftAt) × (shortestCircumference ≤ word s rightAt)
+  unfolding headerTests
+  ends-fit =
+      let pass = passed-all (headerTests s) header-passed in (
+        within-pass shortestCircumference (word s leftAt) longestCircumference (pass .1 .1 .0) .0,
+        within-pass shortestCircumference (word s rightAt) longestCircumference (pass .1 .1 .1 .0) .0,
+      )
 
   pub step-fits : (smallestStep ≤ word s stepAt) × (word s stepAt ≤ largestStep)
   unfolding headerTests
