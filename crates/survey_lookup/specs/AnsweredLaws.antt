@@ -19,6 +19,7 @@ use Rattle.refusal.specs.Test.{verdict}
 use Rattle.refusal.specs.TestLaws.{passed-both}
 use Rattle.schedule.specs.Rows.{mostRows}
 use Rattle.survey.specs.declared.decode.Decoded.{Decoded}
+use Rattle.survey.specs.declared.decode.Survey.{Survey}
 use Rattle.survey.specs.SurveyLaws.{WithinLimits}
 use Rattle.table.specs.Rows.{rowsIn, netRow, cellOf, tableOf}
 use Rattle.table.specs.Tests.{tableTests}
@@ -30,7 +31,7 @@ use Rattle.lookup.specs.Table.{row, keepsUp, neverFalls, soundTable}
 use Rattle.lookup.specs.Litres.{litres}
 use Rattle.lookup.specs.Height.{heightFor}
 use Rattle.lookup.specs.Answer.{litresAnswer, heightAnswer}
-use Rattle.lookup.specs.AnswerLaws.{read-off, reached-answer}
+use Rattle.lookup.specs.AnswerLaws.{read-off, reached-answer, read-off-only, reached-only}
 use Rattle.survey_lookup.specs.Answer.{answerBy, litresFrom, heightFrom, ReadOffOwn, ReachedOwn}
 
 -- rows that are not below zero keep their order as cells
@@ -105,3 +106,13 @@ litres-from-told file h e = (e, rw e (read-off-own file h))
 
 pub height-from-told : (file : Decoded) (w : ℕ) {r : HeightAnswer} → r ≡ heightFrom file w → (r ≡ heightFrom file w) × ReachedOwn (file .survey) w r
 height-from-told file w e = (e, rw e (reached-own file w))
+
+-- and what is promised leaves no other answer
+module _ (v : Survey) where
+  pub own-litres-only : (h x : ℕ) → soundTable (diameterUnits (v .tank .dh)) (v .step) (tableOf v) ≡ true → h ≤ diameterUnits (v .tank .dh)
+      → ReadOffOwn v h (LitresAnswer.Litres (volume x)) → x ≡ litres (diameterUnits (v .tank .dh)) (v .step) (tableOf v) h
+  own-litres-only h x sound l told = read-off-only (diameterUnits (v .tank .dh)) (v .step) (tableOf v) h x sound l told
+
+  pub own-height-only : (w h : ℕ) → ReachedOwn v w (HeightAnswer.Height (dipHeight h))
+      → heightFor (diameterUnits (v .tank .dh)) (v .step) (tableOf v) w ≡ h
+  own-height-only w h told = reached-only (diameterUnits (v .tank .dh)) (v .step) (tableOf v) w h told
