@@ -1,5 +1,5 @@
 -- Every cell that the call writes is the net row, and condition 3 holds of it. Assumes nothing.
-use Prim.Native.Nat.{ℕ}
+use Prim.Native.Nat.{ℕ, _<_}
 use mathlib.Core.Path.{_≡_, refl, sym, _∙_, ap}
 use mathlib.Core.Bool.{true}
 use mathlib.Core.List.{List, _++_}
@@ -35,7 +35,7 @@ row-holds v table i l e =
     let h = heightOf v i in
     record {
       restored = sym (ap (λ z. z +ℤ sharesAt v h) e ∙ -ℤ-+ℤ-cancel (pos (grossRow v i)) (sharesAt v h));
-      slabs = condition3 (v .tank) (l .tank) h;
+      slabs = λ count some. condition3 (v .tank) (l .tank) h count (λ part. omega (arith, some part));
     }
 
 -- what follows from a cell that is the net row holds of every row of the table that a call leaves ..
@@ -53,9 +53,10 @@ every-row-left claim file table follows = by-verdict (verdictOn file (length tab
     by-verdict Passed e = λ i l.
         let both = passed-both (file .verdict) (verdict (tableTests v (length table))) e in
         let cells = rowsOf (cellOf v) (rowsIn v) in
+        let inside : i < rowsIn v = omega arith in
         follows (cells ++ drop (rowsIn v) table) i (both .0)
-        (ap pos (List·getD-append cells (drop (rowsIn v) table) 0 i (omega (arith, length-rowsOf (cellOf v) (rowsIn v))) ∙ getD-rowsOf (cellOf v) 0 (rowsIn v) i l)
-        ∙ natural-size (netRow v i) (none-below-zero v (length table) (both .1) i l))
+        (ap pos (List·getD-append cells (drop (rowsIn v) table) 0 i (omega (arith, length-rowsOf (cellOf v) (rowsIn v))) ∙ getD-rowsOf (cellOf v) 0 (rowsIn v) i inside)
+        ∙ natural-size (netRow v i) (none-below-zero v (length table) (both .1) i inside))
     by-verdict (Refused r) e = tt
 
 -- .. that it is, and condition 3
