@@ -1,17 +1,17 @@
 -- Document 01, 'Slabs', read off in numbers that were worked out from its words by hand and not from these definitions: slabs of a cylinder and
 -- of a pair of heads, both values of pi, the totals and the tolerance of a small tank, and the gross rows next to which condition 3
 -- stops being true. A claim made easier than the paper's fails here. Assumes nothing.
-use Prim.Native.Nat.{ℕ, zero, suc, _+_, _*_}
+use Prim.Native.Nat.{ℕ, zero, suc, _*_}
 use mathlib.Core.Path.{refl}
 use mathlib.Core.List.{List, [], _∷_}
 use native.Mathlib.Nat.{not-le-of-lt}
 use borrow.Author.Tests.{leb-true, leb-false}
 use Rattle.laws.specs.Root.{root, rootUp}
 use Rattle.laws.specs.Sum.{sum}
-use Rattle.measure.specs.Quantity.{diameter, cubicPerV}
+use Rattle.measure.specs.Quantity.{diameter}
 use Rattle.measure.specs.Correction.{correctedHeight}
 use Rattle.circle.specs.Circle.{chord, chordSquare, chordUp}
-use Rattle.slabs.specs.Fraction.{Fraction, whole, _⊕_, _⊑_}
+use Rattle.slabs.specs.Fraction.{whole, _⊕_, _⊑_}
 use Rattle.slabs.specs.Slab.{containsMiddle, smallerFace, largerFace}
 use Rattle.heads.specs.declared.kind.HeadKind.the-variants.{Flat, HalfEllipsoid}
 use Rattle.heads.specs.Slabs.{piUnit, piFitting, piCovering, slabsOf, headsFitting, headsCovering}

@@ -10,7 +10,7 @@ use Rattle.laws.specs.SumLaws.{sum-at-most}
 use Rattle.circle.specs.Circle.{chordSquare}
 use Rattle.circle.specs.ChordLaws.{rises, falls, widest, square-between, square-at-middle, chordSquare-scale}
 use Rattle.slabs.specs.Fraction.{_⊕_, _⊑_}
-use Rattle.slabs.specs.Slab.{smallerFace, largerFace}
+use Rattle.slabs.specs.Slab.{smallerFace}
 use Rattle.slabs.specs.FaceLaws.{smaller-le-lower}
 use Rattle.slabs.specs.CutLaws.{Measures, faces-fit-under, faces-close, faces-refine}
 use Rattle.heads.specs.declared.kind.HeadKind.{HeadKind}

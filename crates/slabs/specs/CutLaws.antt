@@ -3,7 +3,7 @@
 -- claim something of without one of these failing. Assumes nothing.
 use Prim.Native.Nat.{ℕ, _+_, _*_, _≤_, _<_, min}
 use mathlib.Core.Path.{_≡_}
-use native.Mathlib.Nat.{le-refl, le-trans, le-min, mul-le-mul-left, le-of-lt}
+use native.Mathlib.Nat.{le-trans, le-min, mul-le-mul-left, le-of-lt}
 use native.Mathlib.Omega.{arith}
 use Rattle.laws.specs.Sum.{sum}
 use Rattle.laws.specs.SumLaws.{sum-le, sum-add, sum-const, sum-scale, blocks-at-least}

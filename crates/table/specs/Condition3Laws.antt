@@ -5,7 +5,7 @@ use mathlib.Core.Bool.{true}
 use mathlib.Core.List.{List, _++_}
 use native.Mathlib.Omega.{arith}
 use lib.IntN.{ℤ, pos, negsuc, natAbs, _+ℤ_, -ℤ-+ℤ-cancel}
-use lib.ListN.{length, getD, drop, List·getD-append}
+use lib.ListN.{length, drop, List·getD-append}
 use lib.Signed.{nonNeg}
 use Rattle.laws.specs.BoolLaws.{true-not-false}
 use Rattle.laws.specs.Fill.{rowsOf}
