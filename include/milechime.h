@@ -50,7 +50,8 @@ extern "C" {
  *       more than 10,000 away from DH                            0
  *   8   the lent table is shorter than the row count             0
  *   9   a row is below the row before                            its index
- *  10   a row is below zero                                      its index
+ *  10   a row is below zero: cannot occur, since row 0 never is
+ *       and a later row would be below the row before            its index
  *  11   lookup: DH is not 50,000 to 500,000, the step not 100
  *       to 10,000, the table has not exactly the row count, or
  *       a row is below the row before                            0
@@ -60,7 +61,7 @@ extern "C" {
 
 /* The answer to milechime_table. */
 struct milechime_table_answer {
-    uint32_t refusal; /* 0, or 1 to 10 */
+    uint32_t refusal; /* 0, or 1 to 9 */
     uint32_t place;   /* of the refusal */
     uint32_t d1;      /* inner diameter of the shell, u */
     uint32_t d2;      /* inner diameter of flanges and heads, u */
@@ -72,6 +73,8 @@ struct milechime_table_answer {
  * step, the last row that at DH, both from the survey. The rows are written
  * from table[0] on; cells behind them are untouched, and so is the whole
  * table in a refusal. MILECHIME_MOST_ROWS cells are enough for every survey.
+ * No row is below the row before, and a survey without deadwood that passes
+ * 1 to 8 always gets its table.
  */
 struct milechime_table_answer milechime_table(
     const uint8_t *survey, size_t survey_length,
@@ -92,8 +95,10 @@ struct milechime_litres_answer {
 };
 
 /*
- * The volume at a dip height: a row, or the nearest v on the straight line
- * between the rows below and above, halves up.
+ * The volume at a dip height: at a row's height that row, else the nearest v
+ * on the straight line between the rows below and above, halves up, and never
+ * outside the two. It never falls with the height. Refused with 12 exactly
+ * when the table is sound and the height above DH.
  */
 struct milechime_litres_answer milechime_litres(
     uint32_t dh, uint32_t step,
@@ -109,7 +114,8 @@ struct milechime_height_answer {
 
 /*
  * The lowest dip height, from 0 to DH, at which milechime_litres gives at
- * least this volume.
+ * least this volume. Refused with 13 exactly when the table is sound and its
+ * last row below the volume.
  */
 struct milechime_height_answer milechime_height(
     uint32_t dh, uint32_t step,
