@@ -2,15 +2,16 @@
 ghost use mathlib.Core.Path.{_≡_};
 ghost use Prim.Native.Nat.{_≤_, _<_};
 ghost use Rattle.measure.specs.Diameter.{largest};
-ghost use Rattle.measure.specs.Quantity.{diameterUnits, shellUnits};
+ghost use Rattle.measure.specs.Quantity.{diameterUnits};
+ghost use Rattle.circle.specs.ShellHeight.{shellUnits};
 ghost use Rattle.heads.specs.Length.{longest};
 ghost use Rattle.heads.specs.Volume.{headsVolume};
 use crate::kind::HeadKind;
 use arith::product::nearest_of_product;
+use circle::shell_height::ShellHeight;
 use measure::diameter::Diameter;
 use measure::pi::PI_OVER;
 use measure::pi::PI_UNDER;
-use measure::shell_height::ShellHeight;
 use measure::volume::CUBIC_PER_V;
 
 // Half-ellipsoid heads of diameter d and inner length l, filled to h. The product passes 64 bits, and is divided without being
@@ -33,6 +34,6 @@ pub fn heads_volume(kind: HeadKind, d: Diameter, l: u32, h: ShellHeight) -> u64
 {
     match kind {
         HeadKind::Flat => 0,
-        HeadKind::HalfEllipsoid => half_ellipsoids(d.units() as u64, l as u64, h.units() as u64),
+        HeadKind::HalfEllipsoid => half_ellipsoids(d.units() as u64, l as u64, h.shell_units()),
     }
 }

@@ -1,7 +1,6 @@
--- Each quantity and the number of units that it holds: u for heights and diameters, v for a volume. Assumes nothing.
+-- Each quantity and the number of units that it holds: u for dip heights and diameters, v for a volume. Assumes nothing.
 use Prim.Native.Nat.{ℕ, _^_}
 use Rattle.measure.specs.declared.dip_height.DipHeight.{DipHeight}
-use Rattle.measure.specs.declared.shell_height.ShellHeight.{ShellHeight}
 use Rattle.measure.specs.declared.volume.Volume.{Volume}
 use Rattle.measure.specs.declared.diameter.Diameter.{Diameter}
 
@@ -10,12 +9,6 @@ dipHeight n = record { 0 = n }
 
 abbrev pub dipUnits : DipHeight → ℕ
 dipUnits h = h .0
-
-abbrev pub shellHeight : ℕ → ShellHeight
-shellHeight n = record { 0 = n }
-
-abbrev pub shellUnits : ShellHeight → ℕ
-shellUnits h = h .0
 
 abbrev pub volume : ℕ → Volume
 volume n = record { 0 = n }

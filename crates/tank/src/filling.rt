@@ -9,10 +9,10 @@ ghost use Rattle.tank.specs.TankLaws.{TankLimits};
 ghost use Rattle.tank.specs.FillingLaws.{NotPast, fillingAt};
 use crate::cylinder::cylinder_volume;
 use crate::tank::Tank;
+use circle::shell_height::ShellHeight;
 use circle::walk::Walk;
 use heads::volume::heads_volume;
 use measure::dip_height::DipHeight;
-use measure::shell_height::ShellHeight;
 
 pub struct Filling {
     pub shell: Walk,

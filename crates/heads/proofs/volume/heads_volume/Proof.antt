@@ -16,10 +16,10 @@ returns-2 c =
     let a = c .before .before .before .before .before .args in
     rw (c .before .before .before .enum-told2 .given .1)
     (c .half-ellipsoids .ensures
-    ∙ ap₂ (λ (d h : ℕ). headsVolume HalfEllipsoid d (a .l) h) (c .before .before .units .ensures) (c .before .units2 .ensures))
+    ∙ ap₂ (λ (d h : ℕ). headsVolume HalfEllipsoid d (a .l) h) (c .before .before .units .ensures) (c .before .shell-units .ensures))
 
 pub heads-volume-spec : {M : Type 1} → statement M
 heads-volume-spec =
     tie.close
     (tie.spec (λ c. search needs) (λ c. search needs) (λ c κs. search needs) (λ c. search needs)
-    (λ c κs. search needs) (λ c. search needs) (λ c κs. search needs) returns returns-2)
+    (λ c κs. search needs) (λ c κs. search needs) returns returns-2)

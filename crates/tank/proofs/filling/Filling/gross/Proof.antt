@@ -5,8 +5,9 @@ use native.Mathlib.Omega.{arith}
 use borrow.Author.Needs.{needs}
 use Rattle.laws.specs.Nearest.{nearest}
 use Rattle.measure.specs.Diameter.{largest}
-use Rattle.measure.specs.Quantity.{diameterUnits, shellUnits, dipUnits, cubicPerV}
-use Rattle.measure.specs.CorrectionLaws.{corrected-at-most}
+use Rattle.measure.specs.Quantity.{diameterUnits, dipUnits, cubicPerV}
+use Rattle.circle.specs.ShellHeight.{shellUnits}
+use Rattle.circle.specs.CorrectionLaws.{corrected-at-most}
 use Rattle.circle.specs.Circle.{doubledArea}
 use Rattle.heads.specs.Volume.{headsVolume}
 use Rattle.tank.specs.Limits.{longestShell}

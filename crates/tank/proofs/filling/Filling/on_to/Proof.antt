@@ -4,11 +4,11 @@ use mathlib.Core.Path.{_≡_, _∙_, ap, ap₂}
 use Prim.Native.Nat.{ℕ, _^_, _≤_, _<_}
 use native.Mathlib.Omega.{arith}
 use borrow.Author.Needs.{needs}
-use Rattle.measure.specs.declared.shell_height.ShellHeight.{ShellHeight}
 use Rattle.measure.specs.Diameter.{largest}
-use Rattle.measure.specs.Quantity.{shellHeight, shellUnits}
-use Rattle.measure.specs.Correction.{correctedHeight}
-use Rattle.measure.specs.CorrectionLaws.{corrected-at-most}
+use Rattle.circle.specs.declared.shell_height.ShellHeight.{ShellHeight}
+use Rattle.circle.specs.ShellHeight.{shellHeight, shellUnits}
+use Rattle.circle.specs.Correction.{correctedHeight}
+use Rattle.circle.specs.CorrectionLaws.{corrected-at-most}
 use Rattle.circle.specs.declared.walk.Walk.{Walk}
 use Rattle.circle.specs.Walk.{walkAt}
 use Rattle.tank.specs.FillingLaws.{NotAbove}

@@ -1,11 +1,12 @@
 // A shell height: the corrected height of the liquid in a part of the tank, in u. The correction below is the only way to make
-// one.
+// one, and the only step from a dip height to it; there is none back.
 ghost use mathlib.Core.Path.{_≡_};
 ghost use Rattle.laws.specs.Half.{floorHalf, halfDifference};
-ghost use Rattle.measure.specs.Quantity.{dipUnits, diameterUnits, shellHeight, shellUnits};
-ghost use Rattle.measure.specs.Correction.{heldWithin, correctedHeight};
-use crate::diameter::Diameter;
-use crate::dip_height::DipHeight;
+ghost use Rattle.measure.specs.Quantity.{dipUnits, diameterUnits};
+ghost use Rattle.circle.specs.ShellHeight.{shellHeight, shellUnits};
+ghost use Rattle.circle.specs.Correction.{heldWithin, correctedHeight};
+use measure::diameter::Diameter;
+use measure::dip_height::DipHeight;
 
 pub struct ShellHeight(u32);
 
@@ -48,9 +49,11 @@ impl ShellHeight {
         ShellHeight(corrected_units(part.units(), dip_point.units(), height.units()))
     }
 
-    pub fn units(self) -> u32
+    // The number of u, asked for only by what works out an area or a volume from it (tests/heights.sh). Wider than a dip height's
+    // number, so that no dip height is made of it unawares.
+    pub fn shell_units(self) -> u64
         ensures { λ r. ⌜ r ≡ shellUnits self ⌝ }
     {
-        self.0
+        self.0 as u64
     }
 }

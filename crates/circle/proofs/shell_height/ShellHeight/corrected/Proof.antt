@@ -1,10 +1,10 @@
--- `measure::shell_height::ShellHeight::corrected` meets its contract: the numbers that its quantities hold go through
+-- `circle::shell_height::ShellHeight::corrected` meets its contract: the numbers that its quantities hold go through
 -- `corrected_units`. Assumes nothing.
 use mathlib.Core.Path.{ap}
 use borrow.Author.Needs.{needs}
-use Rattle.measure.specs.Quantity.{shellHeight}
-use Rattle.measure.proofs.shell_height.ShellHeight.corrected.Statement.{statement}
-use Rattle.measure.proofs.shell_height.ShellHeight.corrected.Tie as tie
+use Rattle.circle.specs.ShellHeight.{shellHeight}
+use Rattle.circle.proofs.shell_height.ShellHeight.corrected.Statement.{statement}
+use Rattle.circle.proofs.shell_height.ShellHeight.corrected.Tie as tie
 
 returns : tie.Need-returns
 returns c =
