@@ -2,7 +2,7 @@
 ghost use mathlib.Core.Path.{_≡_};
 ghost use Prim.Native.Nat.{_≤_, _<_};
 ghost use Rattle.measure.specs.Diameter.{largest};
-ghost use Rattle.measure.specs.Quantity.{diameterUnits};
+ghost use Rattle.measure.specs.Quantity.{diameterUnits, volume};
 ghost use Rattle.circle.specs.ShellHeight.{shellUnits};
 ghost use Rattle.heads.specs.Length.{longest};
 ghost use Rattle.heads.specs.Volume.{headsVolume};
@@ -13,27 +13,29 @@ use measure::diameter::Diameter;
 use measure::pi::PI_OVER;
 use measure::pi::PI_UNDER;
 use measure::volume::CUBIC_PER_V;
+use measure::volume::Volume;
 
 // Half-ellipsoid heads of diameter d and inner length l, filled to h. The product passes 64 bits, and is divided without being
 // formed: h · h is the factor that stays below the divisor.
-fn half_ellipsoids(d: u64, l: u64, h: u64) -> u64
+fn half_ellipsoids(d: u64, l: u64, h: u64) -> Volume
     requires { ⌜ (h ≤ d) × (0 < d) × (d ≤ largest) × (l ≤ longest) ⌝ }
-    ensures { λ r. ⌜ r ≡ headsVolume HeadKind.HalfEllipsoid d l h ⌝ }
+    ensures { λ r. ⌜ r ≡ volume (headsVolume HeadKind.HalfEllipsoid d l h) ⌝ }
 {
-    nearest_of_product(
+    let both = nearest_of_product(
         PI_OVER * l * (3 * d - 2 * h),
         h * h,
         PI_UNDER * (3 * d) * CUBIC_PER_V,
-    )
+    );
+    Volume::of(both as u32)
 }
 
 // Both heads, filled to h.
-pub fn heads_volume(kind: HeadKind, d: Diameter, l: u32, h: ShellHeight) -> u64
+pub fn heads_volume(kind: HeadKind, d: Diameter, l: u32, h: ShellHeight) -> Volume
     requires { ⌜ (shellUnits h ≤ diameterUnits d) × (0 < diameterUnits d) × (diameterUnits d ≤ largest) × (l ≤ longest) ⌝ }
-    ensures { λ r. ⌜ r ≡ headsVolume kind (diameterUnits d) l (shellUnits h) ⌝ }
+    ensures { λ r. ⌜ r ≡ volume (headsVolume kind (diameterUnits d) l (shellUnits h)) ⌝ }
 {
     match kind {
-        HeadKind::Flat => 0,
+        HeadKind::Flat => Volume::of(0),
         HeadKind::HalfEllipsoid => half_ellipsoids(d.units() as u64, l as u64, h.shell_units()),
     }
 }

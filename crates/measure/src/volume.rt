@@ -1,5 +1,6 @@
 // A volume, in v.
 ghost use mathlib.Core.Path.{_≡_};
+ghost use Prim.Native.Nat.{_+_, _^_, _<_};
 ghost use Rattle.measure.specs.Quantity.{volume, volumeUnits};
 
 pub struct Volume(u32);
@@ -18,5 +19,13 @@ impl Volume {
         ensures { λ r. ⌜ r ≡ volumeUnits self ⌝ }
     {
         self.0
+    }
+
+    // Both volumes together.
+    pub fn plus(self, other: Volume) -> Volume
+        requires { ⌜ volumeUnits self + volumeUnits other < 2 ^ 32 ⌝ }
+        ensures { λ r. ⌜ r ≡ volume (volumeUnits self + volumeUnits other) ⌝ }
+    {
+        Volume(self.0 + other.0)
     }
 }

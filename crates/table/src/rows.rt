@@ -5,8 +5,7 @@ ghost use Prim.Native.Nat.{_≤_};
 ghost use lib.IntN.{pos, _-ℤ_};
 ghost use lib.ListN.{length, take, drop};
 ghost use Rattle.laws.specs.Fill.{rowsOf};
-ghost use Rattle.measure.specs.Quantity.{dipUnits};
-ghost use Rattle.tank.specs.TankLaws.{mostGross};
+ghost use Rattle.measure.specs.Quantity.{dipUnits, volumeUnits};
 ghost use Rattle.deadwood.specs.Item.{mostItems};
 ghost use Rattle.deadwood.specs.Share.{sharesOf};
 ghost use Rattle.deadwood.specs.ListLaws.{DeadwoodLimits};
@@ -17,16 +16,17 @@ use deadwood::item::Deadwood;
 use deadwood::item::MOST_ITEMS;
 use deadwood::sum::sum_of_first;
 use measure::dip_height::DipHeight;
+use measure::volume::Volume;
 use schedule::row_height;
 use survey::decode::Survey;
 use tank::filling::Filling;
 
 // Gross less all shares.
-fn net_of(gross: u64, items: [Deadwood; MOST_ITEMS], count: usize, h: DipHeight) -> i64
-    requires { ⌜ (gross ≤ mostGross) × (count ≤ mostItems) × DeadwoodLimits (take count items) ⌝ }
-    ensures { λ r. ⌜ r ≡ pos gross -ℤ sharesOf (take count items) (dipUnits h) ⌝ }
+fn net_of(gross: Volume, items: [Deadwood; MOST_ITEMS], count: usize, h: DipHeight) -> i64
+    requires { ⌜ (count ≤ mostItems) × DeadwoodLimits (take count items) ⌝ }
+    ensures { λ r. ⌜ r ≡ pos (volumeUnits gross) -ℤ sharesOf (take count items) (dipUnits h) ⌝ }
 {
-    signed::minus(gross as i64, sum_of_first(items, count, h))
+    signed::minus(gross.units() as i64, sum_of_first(items, count, h))
 }
 
 // The net rows into the front of `out`.

@@ -2,7 +2,7 @@
 // walk up each serves the whole table.
 ghost use mathlib.Core.Path.{_≡_};
 ghost use Prim.Native.Nat.{ℕ};
-ghost use Rattle.measure.specs.Quantity.{dipUnits};
+ghost use Rattle.measure.specs.Quantity.{dipUnits, volume};
 ghost use Rattle.tank.specs.declared.tank.Tank.{Tank};
 ghost use Rattle.tank.specs.Tank.{grossAt};
 ghost use Rattle.tank.specs.TankLaws.{TankLimits};
@@ -13,6 +13,7 @@ use circle::shell_height::ShellHeight;
 use circle::walk::Walk;
 use heads::volume::heads_volume;
 use measure::dip_height::DipHeight;
+use measure::volume::Volume;
 
 pub struct Filling {
     pub shell: Walk,
@@ -45,9 +46,9 @@ impl Filling {
     }
 
     // The gross volume of a tank that is filled to a dip height.
-    pub fn gross(self, t: Tank, h: DipHeight) -> u64
+    pub fn gross(self, t: Tank, h: DipHeight) -> Volume
         requires { ⌜ TankLimits t × (self ≡ fillingAt t (dipUnits h)) ⌝ }
-        ensures { λ r. ⌜ r ≡ grossAt t (dipUnits h) ⌝ }
+        ensures { λ r. ⌜ r ≡ volume (grossAt t (dipUnits h)) ⌝ }
     {
         let shell = self.shell;
         let flanges = self.flanges;
@@ -57,6 +58,6 @@ impl Filling {
         let of_shell = cylinder_volume(shell.area(), t.l1 as u64);
         let of_flanges = cylinder_volume(flanges.area(), 2 * (t.l2 as u64));
         let of_heads = heads_volume(kind, d2, t.l3, ShellHeight::corrected(d2, dh, h));
-        of_shell + of_flanges + of_heads
+        of_shell.plus(of_flanges).plus(of_heads)
     }
 }

@@ -9,11 +9,10 @@ use mir.Syntax.{w64}
 use mir.Val.{toZ, ofZ}
 use mir.ValLaws.{toZ-ofZ}
 use Rattle.laws.specs.FillLaws.{Filled, filled-none, filled-more, filled-all}
-use Rattle.measure.specs.Quantity.{dipUnits}
+use Rattle.measure.specs.Quantity.{dipUnits, volumeUnits}
 use Rattle.schedule.specs.Rows.{rowHeight}
 use Rattle.schedule.specs.RowsLaws.{height-next}
 use Rattle.tank.specs.declared.tank.Tank.{Tank}
-use Rattle.tank.specs.TankLaws.{gross-small}
 use Rattle.tank.specs.FillingLaws.{NotPast, not-past}
 use Rattle.deadwood.specs.declared.item.Deadwood.{Deadwood}
 use Rattle.survey.specs.declared.decode.Survey.{Survey}
@@ -42,7 +41,7 @@ stored c =
     let v = c .before .before .before .before .before .before .before .before .before .before .before .args .survey in
     toZ-ofZ w64 (c .net-of .result) (record { sfits = c .net-of .ok })
     ∙ c .net-of .ensures
-    ∙ ap (λ (g : ℕ). pos g -ℤ sharesAt v (dipUnits (c .before .before .before .row-height .result))) (c .before .gross .ensures)
+    ∙ ap (λ g. pos (volumeUnits g) -ℤ sharesAt v (dipUnits (c .before .before .before .row-height .result))) (c .before .gross .ensures)
     ∙ ap (netAt v) (ap dipUnits (c .before .before .before .row-height .ensures) ∙ ap (λ (d : ℕ). rowHeight d (v .step) (c .before .before .before .before .before .loop .i)) (c .before .before .before .before .before .before .before .before .units .ensures))
 
 loop-holds : tie.Need-loop-holds Inv-loop μ-loop
@@ -60,7 +59,7 @@ gross-requires c κs = (c .before .before .before .before .before .before .befor
 net-of-requires : tie.Need-net-of-requires Inv-loop μ-loop
 net-of-requires c κs =
     let l = c .before .before .before .before .before .before .before .before .before .before .pre .0 in
-    (rw (c .gross .ensures) (gross-small _ _ (l .tank)), l .few, l .items)
+    (l .few, l .items)
 
 mul-t17 : tie.Need-mul-t17 Inv-loop μ-loop
 mul-t17 c = omega (arith, c .before .before .before .before .before .before .before .before .before .before .before .good)

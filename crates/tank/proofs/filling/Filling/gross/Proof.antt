@@ -5,10 +5,13 @@ use native.Mathlib.Omega.{arith}
 use borrow.Author.Needs.{needs}
 use Rattle.laws.specs.Nearest.{nearest}
 use Rattle.measure.specs.Diameter.{largest}
-use Rattle.measure.specs.Quantity.{diameterUnits, dipUnits, cubicPerV}
-use Rattle.circle.specs.ShellHeight.{shellUnits}
+use Rattle.measure.specs.declared.volume.Volume.{Volume}
+use Rattle.measure.specs.Quantity.{diameterUnits, dipUnits, volume, volumeUnits, cubicPerV}
+use Rattle.circle.specs.declared.shell_height.ShellHeight.{ShellHeight}
+use Rattle.circle.specs.ShellHeight.{shellHeight, shellUnits}
 use Rattle.circle.specs.CorrectionLaws.{corrected-at-most}
 use Rattle.circle.specs.Circle.{doubledArea}
+use Rattle.heads.specs.declared.kind.HeadKind.{HeadKind}
 use Rattle.heads.specs.Volume.{headsVolume}
 use Rattle.tank.specs.Limits.{longestShell}
 use Rattle.tank.specs.Part.{cylinderVolume}
@@ -23,9 +26,14 @@ module _ (d h l : ℕ) {area : ℕ} (same : area ≡ doubledArea d h) where
   product-fits : h ≤ d → d ≤ largest → l ≤ longestShell → area * l < 2 ^ 63
   product-fits h-high d-high l-high = rw same (omega (arith, cylinder-product d l h h-high d-high l-high))
 
-  rounded : {r : ℕ} → r ≡ nearest (area * l) (2 * cubicPerV) → r ≡ cylinderVolume d l h
+  rounded : {r : Volume} → r ≡ volume (nearest (area * l) (2 * cubicPerV)) → volumeUnits r ≡ cylinderVolume d l h
   unfolding cylinderVolume
-  rounded e = e ∙ ap (λ (n : ℕ). nearest (n * l) (2 * cubicPerV)) same
+  rounded e = ap volumeUnits e ∙ ap (λ (n : ℕ). nearest (n * l) (2 * cubicPerV)) same
+
+-- the heads by the height that the code has of them
+both-heads : (kind : HeadKind) (d l : ℕ) {n : ℕ} {h : ShellHeight} {r : Volume}
+    → h ≡ shellHeight n → r ≡ volume (headsVolume kind d l (shellUnits h)) → volumeUnits r ≡ headsVolume kind d l n
+both-heads kind d l same e = ap volumeUnits e ∙ ap (λ x. headsVolume kind d l (shellUnits x)) same
 
 -- the areas of the tank's two circles
 abbrev shellArea : tie.Start → ℕ
@@ -72,25 +80,31 @@ module _ (c : tie.After-heads-volume) where
   of-flanges = c .before .before
 
   abbrev total : ℕ
-  total = of-shell .cylinder-volume .result + of-flanges .cylinder-volume2 .result + c .heads-volume .result
+  total =
+      volumeUnits (of-shell .cylinder-volume .result) + volumeUnits (of-flanges .cylinder-volume2 .result) + volumeUnits (c .heads-volume .result)
 
-  returns : total ≡ grossAt (start .args .t) (dipUnits (start .args .h))
-  returns =
+  together : total ≡ grossAt (start .args .t) (dipUnits (start .args .h))
+  together =
       let t = start .args .t in
       rw (gross-by-parts t (dipUnits (start .args .h)))
       (ap₂ _+_
       (ap₂ _+_
       (rounded _ _ (t .l1) (shell-area (of-shell .before .before)) (of-shell .cylinder-volume .ensures))
       (rounded _ _ (2 * t .l2) (flange-area (of-flanges .before .before)) (of-flanges .cylinder-volume2 .ensures)))
-      (c .heads-volume .ensures
-      ∙ ap (λ x. headsVolume (t .kind) (diameterUnits (t .d2)) (t .l3) (shellUnits x)) (c .before .corrected .ensures)))
+      (both-heads (t .kind) _ (t .l3) (c .before .corrected .ensures) (c .heads-volume .ensures)))
 
   fits : total ≤ mostGross
-  fits = rw returns (gross-small (start .args .t) (dipUnits (start .args .h)) (start .pre .0))
+  fits = rw together (gross-small (start .args .t) (dipUnits (start .args .h)) (start .pre .0))
+
+returns : tie.Need-returns
+returns c =
+    let heads = c .before .before .heads-volume .result in
+    c .plus2 .ensures
+    ∙ ap volume (ap (λ x. volumeUnits x + volumeUnits heads) (c .before .plus .ensures) ∙ together (c .before .before))
 
 pub gross-spec : {M : Type 1} → statement M
 gross-spec =
     tie.close
     (tie.spec (λ c κs. search needs) (λ c. search needs) cylinder-volume-requires (λ c κs. search needs)
     (λ c. search needs) (λ c. search needs) cylinder-volume-requires-2 (λ c κs. search needs) heads-volume-requires
-    (λ c. omega (arith, fits c)) (λ c. omega (arith, fits c)) returns)
+    (λ c κs. omega (arith, fits c)) (λ c κs. rw (c .plus .ensures) (omega (arith, fits (c .before)))) returns)
