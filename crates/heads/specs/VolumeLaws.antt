@@ -1,7 +1,7 @@
 -- The volume of heads by its polynomial: it never falls as the height grows, that of full heads is document 000's formula 30, and what
 -- no heads within the limits exceed. Assumes nothing.
 use Prim.Native.Nat.{ℕ, _*_, _-_, _≤_, _<_}
-use mathlib.Core.Path.{_≡_, refl}
+use mathlib.Core.Path.{_≡_, ap}
 use native.Mathlib.Nat.{le-refl, le-trans, mul-le-mul, mul-le-mul-left, mul-assoc}
 use native.Mathlib.Omega.{arith}
 use Rattle.laws.specs.Nearest.{nearest}
@@ -18,7 +18,8 @@ use Rattle.heads.specs.CapLaws.{cap, cap-at-most, cap-mono}
 pub volume-by-cap : (d l h : ℕ)
     → headsVolume HalfEllipsoid d l h ≡ nearest (piOver * l * cap d h) (piUnder * (3 * d) * cubicPerV)
 unfolding headsVolume cap
-volume-by-cap d l h = rw (mul-assoc (piOver * l) (h * h) (3 * d - 2 * h)) refl
+volume-by-cap d l h =
+    ap (λ (n : ℕ). nearest n (piUnder * (3 * d) * cubicPerV)) (mul-assoc (piOver * l) (h * h) (3 * d - 2 * h))
 
 pub heads-mono : (kind : HeadKind) (d l h h′ : ℕ) → 0 < d → h ≤ h′ → h′ ≤ d → headsVolume kind d l h ≤ headsVolume kind d l h′
 unfolding headsVolume
