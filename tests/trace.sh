@@ -1,5 +1,6 @@
 #!/usr/bin/env bash
-# docs/TRACE.md is whole: every public function has its row, every must-fail edit is named, and every file of crates/ that it names is there.
+# docs/TRACE.md is whole: every public function has its row, every edit that must be refused is named, and every file of crates/ that it
+# names is there.
 # Says what it looked at; a page that leaves each of these out is seen to be found.
 set -u
 cd "$(dirname "$0")/.." || exit 2
@@ -23,7 +24,7 @@ public_functions() {
     done
 }
 
-edits() { for file in crates/*/must-fail/*.edit; do echo "$(basename "$(dirname "$(dirname "$file")")") $(basename "$file" .edit)"; done; }
+edits() { for file in crates/*/must-fail/*.edit crates/*/must-not-compile/*.edit; do echo "$(basename "$(dirname "$(dirname "$file")")") $(basename "$file" .edit)"; done; }
 
 # what a page lacks: functions without a row of their crate, edits that no line names
 functions_missing() { public_functions | while read -r crate name; do grep -qE "^\| \`$crate\` .*\`([A-Za-z]+::)?$name\`" "$1" || echo "$crate::$name"; done; }
@@ -35,7 +36,7 @@ page=docs/TRACE.md
 found=$(functions_missing "$page")
 [ -z "$found" ] || fail "public functions without a row: $found"
 found=$(edits_missing "$page")
-[ -z "$found" ] || fail "must-fail edits that are not named: $found"
+[ -z "$found" ] || fail "edits that are not named: $found"
 found=$(files_missing "$page")
 [ -z "$found" ] || fail "files that are not there: $found"
 
