@@ -2,15 +2,8 @@
 # Tries the edits that the compiler must refuse, crates/NAME/must-not-compile/*.edit, each on a copy of the sources. They are written as the
 # must-fail edits are, with one line more, `error:`, the compiler's first complaint. `rt must-fail` takes only edits that the compiler lets
 # through to the prover. Says what it tried; an edit that compiles, and one that is refused for another reason, are seen to be found.
-set -u
-cd "$(dirname "$0")/.." || exit 2
+. "$(dirname "$0")/failures.sh"
 room=target/must-not-compile
-failures=0
-
-fail() {
-    echo "FAILED: $1"
-    failures=$((failures + 1))
-}
 
 # Applies an edit to the copy of a crate; its `old:` text stands there once.
 apply() {

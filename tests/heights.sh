@@ -6,14 +6,7 @@
 #   rule 3: what takes a shell height gives a walk or a volume, no other type holds one, and a walk's level is read in `walked` alone;
 #   rule 4: neither type goes by another name or is passed on.
 # Says what it looked at; a sample that breaks each rule is seen to be found.
-set -u
-cd "$(dirname "$0")/.." || exit 2
-failures=0
-
-fail() {
-    echo "FAILED: $1"
-    failures=$((failures + 1))
-}
+. "$(dirname "$0")/failures.sh"
 
 # The functions below look at the folder that they stand in: crates.txt, and the sources without their comments.
 listed() { sed -n "s/^$1: *//p" crates.txt; }

@@ -1,20 +1,17 @@
 #!/usr/bin/env bash
 # Runs the programs against expected output: tanktable on every example, whose table stands beside it, on a file of one byte too many
 # and on one that never ends, of which no more is read than tells that it is too long; tanklookup on right and on wrong use.
-set -u
-cd "$(dirname "$0")/.." || exit 2
+. "$(dirname "$0")/failures.sh"
 program=target/bin/tanktable
 lookup=target/bin/tanklookup
-failures=0
 
 # what is shown, what was expected, what came
 same() {
     if [ "$2" = "$3" ]; then
         echo "ok: $1"
     else
-        echo "FAILED: $1"
+        fail "$1"
         diff <(printf '%s\n' "$2") <(printf '%s\n' "$3") | head -5
-        failures=$((failures + 1))
     fi
 }
 

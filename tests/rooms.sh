@@ -1,14 +1,7 @@
 #!/usr/bin/env bash
 # The rooms are as docs/ARCHITECTURE.md draws them: its 'knows' column is that of crates.txt, and above `survey` nobody cites what reads
 # bytes. Says what it looked at; a sample that breaks each rule is seen to be found.
-set -u
-cd "$(dirname "$0")/.." || exit 2
-failures=0
-
-fail() {
-    echo "FAILED: $1"
-    failures=$((failures + 1))
-}
+. "$(dirname "$0")/failures.sh"
 
 # The rooms that a line of crates.txt, or a row of the table, names. The kit's crates are left out.
 known() { tr ',' ' ' | tr -s ' ' '\n' | grep -vxE '|check|io|libc|os' | sort | paste -sd' '; }

@@ -2,14 +2,7 @@
 # docs/TRACE.md is whole: every public function has its row, every edit that must be refused is named, and every file of crates/ that it
 # names is there.
 # Says what it looked at; a page that leaves each of these out is seen to be found.
-set -u
-cd "$(dirname "$0")/.." || exit 2
-failures=0
-
-fail() {
-    echo "FAILED: $1"
-    failures=$((failures + 1))
-}
+. "$(dirname "$0")/failures.sh"
 
 # CRATE NAME of each function that another crate can call: in lib.rt, or in a file that lib.rt declares with 'pub mod'
 public_functions() {

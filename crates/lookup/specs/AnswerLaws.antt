@@ -10,6 +10,7 @@ use lib.Dec.{leb}
 use Rattle.laws.specs.BoolLaws.{by-test}
 use Rattle.laws.specs.Exactly.{Exactly, exactly-when}
 use Rattle.measure.specs.Quantity.{dipHeight, volume}
+use Rattle.refusal.specs.declared.Refusal.{Refusal}
 use Rattle.refusal.specs.declared.Verdict.{Verdict}
 use Rattle.refusal.specs.declared.Verdict.the-variants.{Passed, Refused}
 use Rattle.refusal.specs.Test.{refusal, test, verdict}
@@ -24,6 +25,16 @@ use Rattle.lookup.specs.LitresLaws.{on-table, never-falls-only, litres-a
 use Rattle.lookup.specs.Height.{heightFor}
 use Rattle.lookup.specs.HeightLaws.{lowest-is, reached}
 use Rattle.lookup.specs.Answer.{litresBy, litresAnswer, ReadOff, TooHigh, heightBy, heightAnswer, Reached, TooMuch}
+
+-- the number of an answer's refusal, 0 for none
+
+abbrev litresRefusal : LitresAnswer → ℕ
+litresRefusal (LitresAnswer.Litres v) = 0
+litresRefusal (LitresAnswer.Refused r) = r .number
+
+abbrev heightRefusal : HeightAnswer → ℕ
+heightRefusal (HeightAnswer.Height h) = 0
+heightRefusal (HeightAnswer.Refused r) = r .number
 
 module _ (dh step : ℕ) (table : List ℕ) where
   pub read-off : (h : ℕ) → ReadOff dh step table h (litresAnswer dh step table h)
@@ -53,29 +64,24 @@ module _ (dh step : ℕ) (table : List ℕ) where
       (λ h. (h .0, leb-false x limit (h .1)))
       (λ h. (h .0, lt-leb x limit (h .1)))
 
+  -- of answers made of a verdict, told apart by the number of their refusal, 0 for none
+  refused-above : {A : Type 0} (by : Verdict → A) (numberOf : A → ℕ) → numberOf (by Passed) ≡ 0 → ((r : Refusal) → numberOf (by (Refused r)) ≡ r .number)
+      → (number x limit : ℕ) → 11 < number
+      → Exactly (by (verdict (test 11 0 (soundTable dh step table) ∷ test number 0 (leb x limit) ∷ [])) ≡ by (Refused (refusal number 0)))
+      ((soundTable dh step table ≡ true) × (limit < x))
+  refused-above by numberOf none its number x limit other =
+      above-limit (λ v. by v ≡ by (Refused (refusal number 0))) number x limit
+      (λ e. absurd (omega (arith, ap numberOf e, none, its (refusal number 0))))
+      (λ e. absurd (omega (arith, ap numberOf e, its (refusal 11 0), its (refusal number 0))))
+      refl
+
   pub refused-too-high : (h : ℕ) → Exactly (litresAnswer dh step table h ≡ LitresAnswer.Refused (refusal 12 0)) (TooHigh dh step table h)
   unfolding litresAnswer
-  refused-too-high h =
-      above-limit (λ v. litresBy v (litres dh step table h) ≡ LitresAnswer.Refused (refusal 12 0)) 12 h dh
-      (λ e. let z : _≡_ {A = ℕ} 0 12 = ap number e in omega arith)
-      (λ e. let z : _≡_ {A = ℕ} 11 12 = ap number e in omega arith)
-      refl
-    where
-      number : LitresAnswer → ℕ
-      number (LitresAnswer.Litres v) = 0
-      number (LitresAnswer.Refused r) = r .number
+  refused-too-high h = refused-above (λ v. litresBy v (litres dh step table h)) litresRefusal refl (λ r. refl) 12 h dh (omega arith)
 
   pub refused-too-much : (w : ℕ) → Exactly (heightAnswer dh step table w ≡ HeightAnswer.Refused (refusal 13 0)) (TooMuch dh step table w)
   unfolding heightAnswer
-  refused-too-much w =
-      above-limit (λ v. heightBy v (heightFor dh step table w) ≡ HeightAnswer.Refused (refusal 13 0)) 13 w _
-      (λ e. let z : _≡_ {A = ℕ} 0 13 = ap number e in omega arith)
-      (λ e. let z : _≡_ {A = ℕ} 11 13 = ap number e in omega arith)
-      refl
-    where
-      number : HeightAnswer → ℕ
-      number (HeightAnswer.Height h) = 0
-      number (HeightAnswer.Refused r) = r .number
+  refused-too-much w = refused-above (λ v. heightBy v (heightFor dh step table w)) heightRefusal refl (λ r. refl) 13 w _ (omega arith)
 
   -- so the answer alone tells all that a lookup promises
   pub litres-told : (h : ℕ) {r : LitresAnswer} → r ≡ litresAnswer dh step table h

@@ -3,6 +3,7 @@
 use Prim.Native.Nat.{ℕ, zero, suc, _-_, _≤_, _<_}
 use mathlib.Core.Path.{_≡_, refl, sym}
 use mathlib.Core.Bool.{true}
+use mathlib.Core.List.{List}
 use native.Mathlib.Omega.{arith}
 use borrow.Author.Tests.{le-leb, eq-eqb}
 use lib.Dec.{leb}
@@ -13,6 +14,7 @@ use Rattle.laws.specs.FillLaws.{length-rowsOf, getD-rowsOf}
 use Rattle.laws.specs.BoolLaws.{true-not-false}
 use Rattle.laws.specs.SearchLaws.{every-each}
 use Rattle.measure.specs.Quantity.{diameterUnits, dipHeight, volume}
+use Rattle.refusal.specs.declared.Refusal.{Refusal}
 use Rattle.refusal.specs.declared.Verdict.{Verdict}
 use Rattle.refusal.specs.declared.Verdict.the-variants.{Passed, Refused}
 use Rattle.refusal.specs.Test.{verdict}
@@ -83,22 +85,23 @@ pub every-volume-answered : (file : Decoded) (w : ℕ) → WithinLimits file →
 unfolding heightFrom heightAnswer
 every-volume-answered file w within made l = rw (made, own-table-sound file mostRows within made, le-leb _ _ l)
 
--- what is answered is on the survey's own table
+-- what holds of the lookup on the survey's own table and of every refusal holds of the answer
+answered : {A : Type 0} (P : A → Type 0) (refused : Refusal → A) (look : ℕ → ℕ → List ℕ → A) (v : Survey)
+    → P (look (diameterUnits (v .tank .dh)) (v .step) (tableOf v)) → ((r : Refusal) → P (refused r)) → (w : Verdict) → P (answerBy refused look w v)
+answered P refused look v p q Passed = p
+answered P refused look v p q (Refused r) = q r
+
 read-off-own : (file : Decoded) (h : ℕ) → ReadOffOwn (file .survey) h (litresFrom file h)
 unfolding litresFrom
-read-off-own file h = by-verdict (verdictOn file mostRows)
-  where
-    by-verdict : (w : Verdict) → ReadOffOwn (file .survey) h (answerBy LitresAnswer.Refused (λ d s rows. litresAnswer d s rows h) w (file .survey))
-    by-verdict Passed = read-off (diameterUnits (file .survey .tank .dh)) (file .survey .step) (tableOf (file .survey)) h
-    by-verdict (Refused r) = tt
+read-off-own file h =
+    answered (ReadOffOwn (file .survey) h) LitresAnswer.Refused (λ d s rows. litresAnswer d s rows h) (file .survey)
+    (read-off _ _ _ h) (λ r. tt) (verdictOn file mostRows)
 
 reached-own : (file : Decoded) (w : ℕ) → ReachedOwn (file .survey) w (heightFrom file w)
 unfolding heightFrom
-reached-own file w = by-verdict (verdictOn file mostRows)
-  where
-    by-verdict : (u : Verdict) → ReachedOwn (file .survey) w (answerBy HeightAnswer.Refused (λ d s rows. heightAnswer d s rows w) u (file .survey))
-    by-verdict Passed = reached-answer (diameterUnits (file .survey .tank .dh)) (file .survey .step) (tableOf (file .survey)) w
-    by-verdict (Refused r) = tt
+reached-own file w =
+    answered (ReachedOwn (file .survey) w) HeightAnswer.Refused (λ d s rows. heightAnswer d s rows w) (file .survey)
+    (reached-answer _ _ _ w) (λ r. tt) (verdictOn file mostRows)
 
 -- so the answer alone tells all that a lookup promises
 pub litres-from-told : (file : Decoded) (h : ℕ) {r : LitresAnswer} → r ≡ litresFrom file h → (r ≡ litresFrom file h) × ReadOffOwn (file .survey) h r
