@@ -175,6 +175,91 @@ fn one_slab_by_hand() {
     assert_eq!(covering.top, by_hand);
 }
 
+/// The readings that the proved definitions are held to, met by this program
+/// too: diameter, length, height, count, and both totals over a number.
+#[test]
+fn the_readings_of_the_slabs() {
+    let shells = [
+        (10, 3, 10, 1, (0, 300), 1),
+        (10, 3, 10, 2, (0, 1_200), 4),
+        (10, 3, 10, 3, (840, 2_640), 9),
+        (11, 3, 11, 1, (0, 363), 1),
+        (11, 3, 11, 2, (0, 1_452), 4),
+        (11, 3, 11, 3, (1_023, 3_201), 9),
+        (10, 3, 7, 3, (1_092, 1_806), 9),
+        (11, 3, 5, 2, (270, 615), 4),
+        (10, 3, 0, 3, (0, 0), 9),
+    ];
+    let heads = [
+        (10, 4, 10, 1, (0, 31_415_927), 50_000),
+        (10, 4, 10, 2, (0, 31_415_927), 50_000),
+        (10, 4, 10, 3, (31_415_926 * 16, 31_415_927 * 50), 2_700_000),
+        (11, 4, 11, 1, (0, 3_801_327_167), 5_000_000),
+        (11, 4, 11, 2, (0, 3_801_327_167), 5_000_000),
+        (
+            11,
+            4,
+            11,
+            3,
+            (1_900_663_523 * 16, 3_801_327_167 * 25),
+            135_000_000,
+        ),
+        (11, 4, 6, 2, (141_371_667 * 64, 20_451_768_477), 55_000_000),
+        (10, 4, 0, 3, (0, 0), 1),
+    ];
+    let shells = shells.map(|reading| (0, reading));
+    let heads = heads.map(|reading| (1, reading));
+    for (kind, (d, length, height, n, (fitting, covering), under)) in
+        shells.into_iter().chain(heads)
+    {
+        // A shell of the length alone, or heads of the length alone.
+        let survey = match kind {
+            0 => tank_of(0, d, length, 0, 0),
+            _ => tank_of(1, d, 0, 0, length),
+        };
+        let dimensions = Dimensions { d1: d, d2: d };
+        let counts = Counts {
+            shell: n,
+            flanges: n,
+            heads: n,
+        };
+        for (slabs, over) in [(Slabs::Fitting, fitting), (Slabs::Covering, covering)] {
+            let total =
+                reference::slabs::total(&survey, dimensions, DipHeight(height), slabs, counts);
+            assert_eq!(
+                total.top.times(&Big::new(under)),
+                total.bottom.times(&Big::new(over)),
+                "kind {kind}, D {d}, H {height}, N {n}, {slabs:?}"
+            );
+        }
+    }
+}
+
+/// The gross rows next to which the condition stops being true, likewise.
+#[test]
+fn the_edges_of_a_small_tank() {
+    let survey = tank_of(1, 60_000, 100_000, 500, 15_000);
+    let dimensions = Dimensions {
+        d1: 60_000,
+        d2: 59_000,
+    };
+    let counts = Counts {
+        shell: 3,
+        flanges: 2,
+        heads: 1,
+    };
+    assert_eq!(tolerance(&survey, dimensions), 48_177_000_000);
+    let holds = |gross| {
+        BOTH.map(|slabs| {
+            condition_holds(&survey, dimensions, DipHeight(30_000), gross, slabs, counts)
+        })
+    };
+    assert_eq!(holds(10_199), [false, true]);
+    assert_eq!(holds(10_200), [true, true]);
+    assert_eq!(holds(20_397), [true, true]);
+    assert_eq!(holds(20_398), [true, false]);
+}
+
 #[test]
 fn big_numbers_agree_with_plain_ones() {
     let mut random = Random::new(5);

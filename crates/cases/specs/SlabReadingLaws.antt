@@ -1,4 +1,4 @@
--- Document 01, 'Slabs', read off in numbers that were worked out from its words by hand and not from these definitions: slabs of a cylinder and
+-- Document 01, 'Slabs', read off in numbers that were worked out from its words, in exact fractions, and not from these definitions: slabs of a cylinder and
 -- of a pair of heads, both values of pi, the totals and the tolerance of a small tank, and the gross rows next to which condition 3
 -- stops being true. A claim made easier than the paper's fails here. Assumes nothing.
 use Prim.Native.Nat.{ℕ, zero, suc, _*_}
@@ -38,12 +38,17 @@ slabReadings =
     ∷ (cylinderCovering 10 3 10 2 comesTo 1200 per 4)
     ∷ (cylinderFitting 10 3 10 3 comesTo 840 per 9)
     ∷ (cylinderCovering 10 3 10 3 comesTo 2640 per 9)
+    ∷ (cylinderFitting 11 3 11 1 comesTo 0 per 1)
+    ∷ (cylinderCovering 11 3 11 1 comesTo 363 per 1)
+    ∷ (cylinderFitting 11 3 11 2 comesTo 0 per 4)
+    ∷ (cylinderCovering 11 3 11 2 comesTo 1452 per 4)
     ∷ (cylinderFitting 11 3 11 3 comesTo 1023 per 9)
     ∷ (cylinderCovering 11 3 11 3 comesTo 3201 per 9)
     ∷ (cylinderFitting 10 3 7 3 comesTo 1092 per 9)
     ∷ (cylinderCovering 10 3 7 3 comesTo 1806 per 9)
     ∷ (cylinderFitting 11 3 5 2 comesTo 270 per 4)
     ∷ (cylinderCovering 11 3 5 2 comesTo 615 per 4)
+    ∷ (cylinderFitting 10 3 0 3 comesTo 0 per 9)
     ∷ (cylinderCovering 10 3 0 3 comesTo 0 per 9)
     ∷ (piFitting * 10000000 reads 31415926 * piUnit)
     ∷ (piCovering * 10000000 reads 31415927 * piUnit)
@@ -53,11 +58,17 @@ slabReadings =
     ∷ (headsCovering HalfEllipsoid 10 4 10 2 comesTo 31415927 per 50000)
     ∷ (headsFitting HalfEllipsoid 10 4 10 3 comesTo 15707963 per 84375)
     ∷ (headsCovering HalfEllipsoid 10 4 10 3 comesTo 31415927 per 54000)
+    ∷ (headsFitting HalfEllipsoid 11 4 11 1 comesTo 0 per 1)
+    ∷ (headsCovering HalfEllipsoid 11 4 11 1 comesTo 3801327167 per 5000000)
+    ∷ (headsFitting HalfEllipsoid 11 4 11 2 comesTo 0 per 1)
+    ∷ (headsCovering HalfEllipsoid 11 4 11 2 comesTo 3801327167 per 5000000)
     ∷ (headsFitting HalfEllipsoid 11 4 11 3 comesTo 1900663523 per 8437500)
     ∷ (headsCovering HalfEllipsoid 11 4 11 3 comesTo 3801327167 per 5400000)
     ∷ (headsFitting HalfEllipsoid 11 4 6 2 comesTo 141371667 per 859375)
     ∷ (headsCovering HalfEllipsoid 11 4 6 2 comesTo 20451768477 per 55000000)
+    ∷ (headsFitting HalfEllipsoid 10 4 0 3 comesTo 0 per 1)
     ∷ (headsCovering HalfEllipsoid 10 4 0 3 comesTo 0 per 1)
+    ∷ (headsFitting Flat 10 0 10 3 comesTo 0 per 1)
     ∷ (headsCovering Flat 10 0 10 3 comesTo 0 per 1)
     ∷ []
 
