@@ -1,6 +1,7 @@
--- Document 01, 'Slabs', read off in numbers that were worked out from its words, in exact fractions, and not from these definitions: slabs of a cylinder and
--- of a pair of heads, both values of pi, the totals and the tolerance of a small tank, and the gross rows next to which condition 3
--- stops being true. A claim made easier than the paper's fails here. Assumes nothing.
+-- Document 01, 'Slabs', read off in numbers that were worked out from its words, in exact fractions, and not from these definitions:
+-- slabs of a cylinder and of a pair of heads, both values of pi, the totals and the tolerance of a small tank, and the gross rows next to
+-- which condition 3 stops being true. The second program meets the same (reference/tests/slabs.rs). A claim made easier than the paper's
+-- fails here. Assumes nothing.
 use Prim.Native.Nat.{ℕ, zero, suc, _*_}
 use mathlib.Core.Path.{refl}
 use mathlib.Core.List.{List, [], _∷_}

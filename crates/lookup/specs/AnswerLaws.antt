@@ -8,7 +8,8 @@ use native.Mathlib.Omega.{arith}
 use borrow.Author.Tests.{lt-leb, leb-true, leb-false}
 use lib.Dec.{leb}
 use Rattle.laws.specs.BoolLaws.{by-test}
-use Rattle.laws.specs.Exactly.{Exactly, exactly-when}
+use Rattle.laws.specs.Exactly.{Exactly}
+use Rattle.laws.specs.ExactlyLaws.{exactly-when}
 use Rattle.measure.specs.Quantity.{dipHeight, volume}
 use Rattle.refusal.specs.declared.Refusal.{Refusal}
 use Rattle.refusal.specs.declared.Verdict.{Verdict}
