@@ -1,6 +1,6 @@
 #!/usr/bin/env bash
-# Runs the programs against expected output: tanktable on every example, whose table stands beside it, on a file of one byte too many
-# and on one that never ends, of which no more is read than tells that it is too long; tanklookup on right and on wrong use.
+# Runs the programs against expected output: tanktable on every example, whose table stands beside it, on one with bytes in no section, on a
+# file of one byte too many and on one that never ends, of which no more is read than tells that it is too long; tanklookup on right and on wrong use.
 . "$(dirname "$0")/failures.sh"
 program=target/bin/tanktable
 lookup=target/bin/tanklookup
@@ -21,6 +21,7 @@ done
 same "65,537 bytes" "refused 1 0" "$(head -c 65537 /dev/zero | "$program")"
 same "a file that never ends" "refused 1 0" "$(timeout 10 "$program" </dev/zero)"
 same "an empty file" "refused 1 0" "$("$program" </dev/null)"
+same "bytes behind the sections" "$(cat examples/six_rows.txt)" "$({ cat examples/six_rows.survey; echo 'bytes in no section'; } | "$program")"
 
 # what tanklookup answers, on either stream
 asked() { "$lookup" "${@:2}" <"examples/$1.survey" 2>&1; }
