@@ -40,7 +40,7 @@ module _ (d l h n : ℕ) where
 
   pub heads-fit-under : (kind : HeadKind) → headsFitting kind d l h n ⊑ headsCovering kind d l h n
   unfolding headsFitting headsCovering slabsOf
-  heads-fit-under Flat = le-refl 0
+  heads-fit-under Flat = omega arith
   heads-fit-under HalfEllipsoid =
       omega (arith, mul-le-mul-left (l * h * d * (n * n * n)) (faces-fit-under d h n 0 (n * d * (n * d)) _ _ (sections d n)))
 
@@ -58,7 +58,7 @@ module _ (d l h n : ℕ) where
 
   pub heads-refine : (kind : HeadKind) (k : ℕ) → headsFitting kind d l h n ⊑ headsFitting kind d l h (n * k)
   unfolding headsFitting slabsOf
-  heads-refine Flat k = le-refl 0
+  heads-refine Flat k = omega arith
   heads-refine HalfEllipsoid k =
       omega (
         arith,

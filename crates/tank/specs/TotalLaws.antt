@@ -4,7 +4,7 @@
 use Prim.Native.Nat.{ℕ, suc, _+_, _*_, _<_}
 use mathlib.Core.Path.{_≡_}
 use mathlib.Core.List.{List, [], _∷_}
-use native.Mathlib.Nat.{le-refl, mul-pos}
+use native.Mathlib.Nat.{mul-pos}
 use native.Mathlib.Omega.{arith}
 use Rattle.measure.specs.Quantity.{diameterUnits, cubicPerV}
 use Rattle.slabs.specs.Fraction.{whole, _⊕_, _⊑_}
@@ -35,7 +35,7 @@ shape-under (headPair kind) d l h n some-d some = heads-under d l h n kind some-
 
 pub totals-fit-under : (fs : List Filled) (count : ℕ → ℕ) → fittingTotal fs count ⊑ coveringTotal fs count
 unfolding fittingTotal coveringTotal fittingOf coveringOf
-totals-fit-under [] count = le-refl 0
+totals-fit-under [] count = omega arith
 totals-fit-under (f ∷ fs) count =
     sums-keep-order (fittingOf f (count 0)) (coveringOf f (count 0)) (fittingTotal fs (λ k. count (suc k))) (coveringTotal fs (λ k. count (suc k)))
     (shape-fits-under (f .part .shape) (f .part .d) (f .part .l) (f .height) (count 0))
@@ -44,7 +44,7 @@ totals-fit-under (f ∷ fs) count =
 -- each part cut `times` finer
 pub totals-refine : (fs : List Filled) (count times : ℕ → ℕ) → fittingTotal fs count ⊑ fittingTotal fs (λ k. count k * times k)
 unfolding fittingTotal fittingOf
-totals-refine [] count times = le-refl 0
+totals-refine [] count times = omega arith
 totals-refine (f ∷ fs) count times =
     sums-keep-order (fittingOf f (count 0)) (fittingOf f (count 0 * times 0))
     (fittingTotal fs (λ k. count (suc k))) (fittingTotal fs (λ k. count (suc k) * times (suc k)))
