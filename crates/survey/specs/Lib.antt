@@ -13,6 +13,7 @@ pub mod SectionLaws
 pub mod CourseLaws
 pub mod JudgedLaws
 pub mod SurveyLaws
+pub mod LimitLaws
 pub mod WallLaws
 pub mod NumberedLaws
 pub mod IgnoredLaws
