@@ -98,7 +98,7 @@ struct milechime_litres_answer {
  * The volume at a dip height: at a row's height that row, else the nearest v
  * on the straight line between the rows below and above, halves up, and never
  * outside the two. It never falls with the height. Refused with 12 exactly
- * when the table is sound and the height above DH.
+ * when 11 does not apply and the height is above DH.
  */
 struct milechime_litres_answer milechime_litres(
     uint32_t dh, uint32_t step,
@@ -114,8 +114,8 @@ struct milechime_height_answer {
 
 /*
  * The lowest dip height, from 0 to DH, at which milechime_litres gives at
- * least this volume. Refused with 13 exactly when the table is sound and its
- * last row below the volume.
+ * least this volume. Refused with 13 exactly when 11 does not apply and the
+ * last row is below the volume.
  */
 struct milechime_height_answer milechime_height(
     uint32_t dh, uint32_t step,

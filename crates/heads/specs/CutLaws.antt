@@ -44,7 +44,7 @@ module _ (d l h n : ℕ) where
   heads-fit-under HalfEllipsoid =
       omega (arith, mul-le-mul-left (l * h * d * (n * n * n)) (faces-fit-under d h n 0 (n * d * (n * d)) _ _ (sections d n)))
 
-  -- covering slabs total more by at most L·H·D·(1 / 2 + 3·pi·piUnit / 2N) parts of piUnit
+  -- covering slabs total more by at most L·H·D·(1 + 3·piCovering / N) / (2·piUnit): the 1 is that of the two values of pi
   pub heads-close : (kind : HeadKind)
       → headsCovering kind d l h n ⊑ headsFitting kind d l h n ⊕ record { over = l * h * d * (n + 3 * piCovering); under = 2 * piUnit * n }
   unfolding headsFitting headsCovering slabsOf fitting
