@@ -66,7 +66,7 @@ module _ (dh step : ℕ) (table : List ℕ) where
       (λ h. (h .0, lt-leb x limit (h .1)))
 
   -- of answers made of a verdict, told apart by the number of their refusal, 0 for none
-  refused-above : {A : Type 0} (by : Verdict → A) (numberOf : A → ℕ) → numberOf (by Passed) ≡ 0 → ((r : Refusal) → numberOf (by (Refused r)) ≡ r .number)
+  pub refused-above : {A : Type 0} (by : Verdict → A) (numberOf : A → ℕ) → numberOf (by Passed) ≡ 0 → ((r : Refusal) → numberOf (by (Refused r)) ≡ r .number)
       → (number x limit : ℕ) → 11 < number
       → Exactly (by (verdict (test 11 0 (soundTable dh step table) ∷ test number 0 (leb x limit) ∷ [])) ≡ by (Refused (refusal number 0)))
       ((soundTable dh step table ≡ true) × (limit < x))

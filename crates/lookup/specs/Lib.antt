@@ -1,5 +1,6 @@
 -- Document 01, 'Lookups': what a sound table is (Table), the value on the line between two rows (Line), the litres at a height
--- (Litres), the lowest height for a volume (Height), and the answers (Answer). The other files are laws.
+-- (Litres), the lowest height for a volume (Height), the answers (Answer), and the litres delivered between two heights (Delivered).
+-- The other files are laws.
 pub mod Table
 pub mod TableLaws
 pub mod Line
@@ -10,3 +11,5 @@ pub mod Height
 pub mod HeightLaws
 pub mod Answer
 pub mod AnswerLaws
+pub mod Delivered
+pub mod DeliveredLaws

@@ -1,4 +1,5 @@
-// Both lookups on a lent table, whoever made it: litres at a height, and the lowest height for a volume.
+// The lookups on a lent table, whoever made it: litres at a height, litres delivered between two, and the lowest height for a volume.
+pub mod delivered;
 pub mod height;
 mod line;
 pub mod litres;
