@@ -68,7 +68,8 @@ module _ (dh step : ℕ) (table : List ℕ) where
   abbrev gain : ℕ → ℕ → ℤ
   gain before after = held after -ℤ held before
 
-  by-higher : (before after : ℕ) → deliveredAnswer dh step table before after ≡ differenceBy (verdict (litresTests dh step table (max before after))) (gain before after)
+  by-higher : (before after : ℕ)
+      → deliveredAnswer dh step table before after ≡ differenceBy (verdict (litresTests dh step table (max before after))) (gain before after)
   unfolding deliveredAnswer litresAnswer
   by-higher before after =
       by-test (soundTable dh step table)
@@ -116,14 +117,16 @@ module _ (dh step : ℕ) (table : List ℕ) where
       rw (x .is) (delivered-inside after before (x .is-sound) (x .second) (x .first) ∙ ap DeliveredAnswer.Litres (turned (held before) (held after)))
 
   pub delivered-in-turn : (first second third : ℕ) {d e : ℤ} → deliveredAnswer dh step table first second ≡ DeliveredAnswer.Litres d
-      → deliveredAnswer dh step table second third ≡ DeliveredAnswer.Litres e → deliveredAnswer dh step table first third ≡ DeliveredAnswer.Litres (d +ℤ e)
+      → deliveredAnswer dh step table second third ≡ DeliveredAnswer.Litres e
+      → deliveredAnswer dh step table first third ≡ DeliveredAnswer.Litres (d +ℤ e)
   delivered-in-turn first second third p q =
       let x = answered first second p in
       let y = answered second third q in
       rw (x .is, y .is)
       (delivered-inside first third (x .is-sound) (x .first) (y .second) ∙ ap DeliveredAnswer.Litres (joined (held first) (held second) (held third)))
 
-  pub delivered-higher : (before after : ℕ) {d : ℤ} → before ≤ after → deliveredAnswer dh step table before after ≡ DeliveredAnswer.Litres d → nonNeg d ≡ true
+  pub delivered-higher : (before after : ℕ) {d : ℤ} → before ≤ after → deliveredAnswer dh step table before after ≡ DeliveredAnswer.Litres d
+      → nonNeg d ≡ true
   delivered-higher before after l e =
       let x = answered before after e in
       rw (x .is) (not-below-zero _ _ (litres-mono dh step table (sound dh step table (x .is-sound)) before after l (x .second)))
@@ -137,11 +140,14 @@ module _ (dh step : ℕ) (table : List ℕ) where
   both-read before after (LitresAnswer.Litres a) (LitresAnswer.Litres b) p q =
       record { a = volumeUnits a; b = volumeUnits b; at-first = p; at-second = q; adds-up = put-back (pos (volumeUnits a)) (pos (volumeUnits b)) }
 
-  read-off-both : (before after : ℕ) → ReadOffBoth dh step table before after (deliveredAnswer dh step table before after)
+  pub read-off-both : (before after : ℕ) → ReadOffBoth dh step table before after (deliveredAnswer dh step table before after)
   unfolding deliveredAnswer
-  read-off-both before after = both-read before after (litresAnswer dh step table before) (litresAnswer dh step table after) (read-off dh step table before) (read-off dh step table after)
+  read-off-both before after =
+      both-read before after (litresAnswer dh step table before) (litresAnswer dh step table after)
+      (read-off dh step table before) (read-off dh step table after)
 
-  refused-either : (before after : ℕ) → Exactly (deliveredAnswer dh step table before after ≡ DeliveredAnswer.Refused (refusal 12 0)) (TooHigh dh step table (max before after))
+  refused-either : (before after : ℕ)
+      → Exactly (deliveredAnswer dh step table before after ≡ DeliveredAnswer.Refused (refusal 12 0)) (TooHigh dh step table (max before after))
   refused-either before after =
       rw (by-higher before after)
       (refused-above dh step table (λ v. differenceBy v (gain before after)) deliveredRefusal refl (λ r. refl) 12 (max before after) dh (omega arith))

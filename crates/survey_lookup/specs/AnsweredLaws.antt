@@ -1,23 +1,25 @@
--- A lookup on a survey's own table is never refused for the table (refusal 11): every height up to DH and every volume up to the last
--- row is answered; and what is answered, said outright. Assumes nothing.
+-- A lookup on a survey's own table is never refused for the table (refusal 11): every height up to DH, every volume up to the last
+-- row and every delivery between such heights is answered; and what is answered, in hand or from the file, said outright. Assumes nothing.
 use Prim.Native.Nat.{ℕ, zero, suc, _-_, _≤_, _<_}
-use mathlib.Core.Path.{_≡_, refl, sym}
+use mathlib.Core.Path.{_≡_, refl, sym, _∙_, ap}
 use mathlib.Core.Bool.{true}
 use mathlib.Core.List.{List}
 use native.Mathlib.Omega.{arith}
 use borrow.Author.Tests.{le-leb, eq-eqb}
 use lib.Dec.{leb}
-use lib.IntN.{ℤ, pos, negsuc, natAbs}
+use lib.IntN.{ℤ, pos, negsuc, natAbs, _-ℤ_}
 use lib.ListN.{length}
 use lib.Signed.{leZ, nonNeg}
 use Rattle.laws.specs.FillLaws.{length-rowsOf, getD-rowsOf}
 use Rattle.laws.specs.BoolLaws.{true-not-false}
+use Rattle.laws.specs.Exactly.{Exactly}
+use Rattle.laws.specs.ExactlyLaws.{exactly-when}
 use Rattle.laws.specs.SearchLaws.{every-each}
 use Rattle.measure.specs.Quantity.{diameterUnits, dipHeight, volume}
 use Rattle.refusal.specs.declared.Refusal.{Refusal}
 use Rattle.refusal.specs.declared.Verdict.{Verdict}
 use Rattle.refusal.specs.declared.Verdict.the-variants.{Passed, Refused}
-use Rattle.refusal.specs.Test.{verdict}
+use Rattle.refusal.specs.Test.{refusal, verdict}
 use Rattle.refusal.specs.TestLaws.{passed-both}
 use Rattle.schedule.specs.Rows.{mostRows}
 use Rattle.survey.specs.declared.decode.Decoded.{Decoded}
@@ -29,12 +31,19 @@ use Rattle.table.specs.RowTestLaws.{none-falls, none-below-zero}
 use Rattle.table.specs.Answer.{verdictOn}
 use Rattle.lookup.specs.declared.litres.LitresAnswer.{LitresAnswer}
 use Rattle.lookup.specs.declared.height.HeightAnswer.{HeightAnswer}
+use Rattle.lookup.specs.declared.delivered.DeliveredAnswer.{DeliveredAnswer}
 use Rattle.lookup.specs.Table.{row, keepsUp, neverFalls, soundTable}
 use Rattle.lookup.specs.Litres.{litres}
 use Rattle.lookup.specs.Height.{heightFor}
 use Rattle.lookup.specs.Answer.{litresAnswer, heightAnswer}
-use Rattle.lookup.specs.AnswerLaws.{read-off, reached-answer, read-off-only, reached-only}
-use Rattle.survey_lookup.specs.Answer.{answerBy, litresFrom, heightFrom, ReadOffOwn, ReachedOwn}
+use Rattle.lookup.specs.AnswerLaws.{read-off, reached-answer, refused-too-much, read-off-only, reached-only}
+use Rattle.lookup.specs.Delivered.{deliveredAnswer}
+use Rattle.lookup.specs.DeliveredLaws.{delivered-inside, read-off-both, read-off-both-only}
+use Rattle.survey_lookup.specs.declared.Tabled.{Tabled}
+use Rattle.survey_lookup.specs.Tabled.{tabled, lastRow}
+use Rattle.survey_lookup.specs.TabledLaws.{tabled-verdict, answer-in-file, last-row-own}
+use Rattle.survey_lookup.specs.Answer.{answerBy, answerIn, answerFrom, AsFromFile, litresIn, litresFrom, ReadOffOwn}
+use Rattle.survey_lookup.specs.Answer.{heightIn, heightFrom, ReachedOwn, deliveredIn, deliveredFrom, ReadOffBothOwn}
 
 -- rows that are not below zero keep their order as cells
 cells-keep-up : (y z : ℤ) → nonNeg y ≡ true → nonNeg z ≡ true → leZ y z ≡ true → leb (natAbs y) (natAbs z) ≡ true
@@ -85,30 +94,59 @@ pub every-volume-answered : (file : Decoded) (w : ℕ) → WithinLimits file →
 unfolding heightFrom heightAnswer
 every-volume-answered file w within made l = rw (made, own-table-sound file mostRows within made, le-leb _ _ l)
 
--- what holds of the lookup on the survey's own table and of every refusal holds of the answer
-answered : {A : Type 0} (P : A → Type 0) (refused : Refusal → A) (look : ℕ → ℕ → List ℕ → A) (v : Survey)
-    → P (look (diameterUnits (v .tank .dh)) (v .step) (tableOf v)) → ((r : Refusal) → P (refused r)) → (w : Verdict) → P (answerBy refused look w v)
-answered P refused look v p q Passed = p
-answered P refused look v p q (Refused r) = q r
+-- .. every delivery between heights up to DH
+pub every-delivery-answered : (file : Decoded) (before after : ℕ) → WithinLimits file → verdictOn file mostRows ≡ Passed
+    → before ≤ diameterUnits (file .survey .tank .dh) → after ≤ diameterUnits (file .survey .tank .dh)
+    → deliveredFrom file before after ≡ DeliveredAnswer.Litres
+    (pos (litres (diameterUnits (file .survey .tank .dh)) (file .survey .step) (tableOf (file .survey)) after)
+    -ℤ pos (litres (diameterUnits (file .survey .tank .dh)) (file .survey .step) (tableOf (file .survey)) before))
+unfolding deliveredFrom
+every-delivery-answered file before after within made l m =
+    rw made (delivered-inside _ _ _ before after (own-table-sound file mostRows within made) l m)
 
-read-off-own : (file : Decoded) (h : ℕ) → ReadOffOwn (file .survey) h (litresFrom file h)
-unfolding litresFrom
-read-off-own file h =
-    answered (ReadOffOwn (file .survey) h) LitresAnswer.Refused (λ d s rows. litresAnswer d s rows h) (file .survey)
-    (read-off _ _ _ h) (λ r. tt) (verdictOn file mostRows)
-
-reached-own : (file : Decoded) (w : ℕ) → ReachedOwn (file .survey) w (heightFrom file w)
+-- a volume is too much exactly when it is above the last row
+pub refused-above-last : (file : Decoded) (w : ℕ) → WithinLimits file → verdictOn file mostRows ≡ Passed
+    → Exactly (heightFrom file w ≡ HeightAnswer.Refused (refusal 13 0)) (lastRow (tabled file) < w)
 unfolding heightFrom
-reached-own file w =
-    answered (ReachedOwn (file .survey) w) HeightAnswer.Refused (λ d s rows. heightAnswer d s rows w) (file .survey)
-    (reached-answer _ _ _ w) (λ r. tt) (verdictOn file mostRows)
+refused-above-last file w within made =
+    let last = last-row-own file (tabled-verdict file ∙ made) in
+    rw (made, last) (exactly-when (refused-too-much _ _ _ w) (λ h. h .1) (λ h. (own-table-sound file mostRows within made, h)))
 
--- so the answer alone tells all that a lookup promises
-pub litres-from-told : (file : Decoded) (h : ℕ) {r : LitresAnswer} → r ≡ litresFrom file h → (r ≡ litresFrom file h) × ReadOffOwn (file .survey) h r
-litres-from-told file h e = (e, rw e (read-off-own file h))
+-- what holds of the lookup on the survey's own table and of every refusal holds of the answer
+answered : {A : Type 0} (P : A → Type 0) (refused : Refusal → A) (look : ℕ → ℕ → List ℕ → A) (dh step : ℕ) (rows : List ℕ)
+    → P (look dh step rows) → ((r : Refusal) → P (refused r)) → (w : Verdict) → P (answerBy refused look w dh step rows)
+answered P refused look dh step rows p q Passed = p
+answered P refused look dh step rows p q (Refused r) = q r
 
-pub height-from-told : (file : Decoded) (w : ℕ) {r : HeightAnswer} → r ≡ heightFrom file w → (r ≡ heightFrom file w) × ReachedOwn (file .survey) w r
-height-from-told file w e = (e, rw e (reached-own file w))
+-- so an answer on a table in hand tells all that a lookup promises
+told : {A : Type 0} (refused : Refusal → A) (look : ℕ → ℕ → List ℕ → A) (Own : Survey → A → Type 0)
+    → ((v : Survey) → Own v (look (diameterUnits (v .tank .dh)) (v .step) (tableOf v))) → ((v : Survey) (r : Refusal) → Own v (refused r))
+    → (t : Tabled) {r : A} → r ≡ answerIn refused look t → (r ≡ answerIn refused look t) × AsFromFile (answerFrom refused look) Own t r
+told refused look Own p q t {r} e = (e, as-from)
+  where
+    as-from : AsFromFile (answerFrom refused look) Own t r
+    as-from file is =
+        let same = e ∙ ap (answerIn refused look) is ∙ answer-in-file refused look file in
+        (same, rw same (answered (Own (file .survey)) refused look _ _ _ (p (file .survey)) (q (file .survey)) (verdictOn file mostRows)))
+
+pub litres-in-told : (t : Tabled) (h : ℕ) {r : LitresAnswer} → r ≡ litresIn t h
+    → (r ≡ litresIn t h) × AsFromFile (λ file. litresFrom file h) (λ v. ReadOffOwn v h) t r
+unfolding litresIn litresFrom
+litres-in-told t h =
+    told LitresAnswer.Refused (λ d s rows. litresAnswer d s rows h) (λ v. ReadOffOwn v h) (λ v. read-off _ _ _ h) (λ v r. tt) t
+
+pub height-in-told : (t : Tabled) (w : ℕ) {r : HeightAnswer} → r ≡ heightIn t w
+    → (r ≡ heightIn t w) × AsFromFile (λ file. heightFrom file w) (λ v. ReachedOwn v w) t r
+unfolding heightIn heightFrom
+height-in-told t w =
+    told HeightAnswer.Refused (λ d s rows. heightAnswer d s rows w) (λ v. ReachedOwn v w) (λ v. reached-answer _ _ _ w) (λ v r. tt) t
+
+pub delivered-in-told : (t : Tabled) (before after : ℕ) {r : DeliveredAnswer} → r ≡ deliveredIn t before after
+    → (r ≡ deliveredIn t before after) × AsFromFile (λ file. deliveredFrom file before after) (λ v. ReadOffBothOwn v before after) t r
+unfolding deliveredIn deliveredFrom
+delivered-in-told t before after =
+    told DeliveredAnswer.Refused (λ d s rows. deliveredAnswer d s rows before after) (λ v. ReadOffBothOwn v before after)
+    (λ v. read-off-both _ _ _ before after) (λ v r. tt) t
 
 -- and what is promised leaves no other answer
 module _ (v : Survey) where
@@ -119,3 +157,9 @@ module _ (v : Survey) where
   pub own-height-only : (w h : ℕ) → ReachedOwn v w (HeightAnswer.Height (dipHeight h))
       → heightFor (diameterUnits (v .tank .dh)) (v .step) (tableOf v) w ≡ h
   own-height-only w h told = reached-only (diameterUnits (v .tank .dh)) (v .step) (tableOf v) w h told
+
+  pub own-difference-only : (before after : ℕ) (d : ℤ) → soundTable (diameterUnits (v .tank .dh)) (v .step) (tableOf v) ≡ true
+      → before ≤ diameterUnits (v .tank .dh) → after ≤ diameterUnits (v .tank .dh) → ReadOffBothOwn v before after (DeliveredAnswer.Litres d)
+      → deliveredAnswer (diameterUnits (v .tank .dh)) (v .step) (tableOf v) before after ≡ DeliveredAnswer.Litres d
+  own-difference-only before after d sound l m told =
+      read-off-both-only (diameterUnits (v .tank .dh)) (v .step) (tableOf v) before after d sound l m told

@@ -1,7 +1,7 @@
 -- What a survey file's own table tells: the verdict on the file, and where that refuses nothing the numbers and rows of its survey.
 -- Assumes nothing.
-use Prim.Native.Nat.{ℕ, _≤_}
-use mathlib.Core.Path.{_≡_, refl, sym, _∙_, ap, ap₂}
+use Prim.Native.Nat.{ℕ, _-_, _≤_}
+use mathlib.Core.Path.{_≡_, refl, sym, _∙_, ap}
 use mathlib.Core.List.{List}
 use native.Mathlib.Omega.{arith}
 use lib.ListN.{length, take, length-take, length-replicate}
@@ -22,9 +22,10 @@ use Rattle.table.specs.Rows.{rowsIn, cellOf, tableOf}
 use Rattle.table.specs.Tests.{tableTests}
 use Rattle.table.specs.Answer.{verdictOn, tableLeft}
 use Rattle.table.specs.AnswerLaws.{front-is-table}
+use Rattle.lookup.specs.Table.{row}
 use Rattle.survey_lookup.specs.declared.Tabled.{Tabled}
-use Rattle.survey_lookup.specs.Tabled.{noRows, tabledBy, tabled}
-use Rattle.survey_lookup.specs.Answer.{answerBy}
+use Rattle.survey_lookup.specs.Tabled.{noRows, tabledBy, tabled, lastRow}
+use Rattle.survey_lookup.specs.Answer.{answerBy, answerIn, answerFrom}
 
 pub no-rows-room : length noRows ≡ mostRows
 unfolding noRows
@@ -69,17 +70,25 @@ ready file within is-passed =
 pub ready-file : (s : List ℕ) {t : Tabled} → t ≡ tabled (decoded s) → t .verdict ≡ Passed → Ready (decoded s .survey) t
 ready-file s is is-passed = rw is (ready (decoded s) (decoded-fits s) (sym (ap (λ t. t .verdict) is) ∙ is-passed))
 
--- any lookup on the table that was made is the answer from the file; so is the refusal of one that was not made
-module _ {A : Type 0} (refused : Refusal → A) (look : ℕ → ℕ → List ℕ → A) (s : List ℕ) {t : Tabled} (is : t ≡ tabled (decoded s)) where
-  by-verdict : (w : Verdict) → t .verdict ≡ w → answerBy refused look w (decoded s .survey) ≡ answerBy refused look (verdictOn (decoded s) mostRows) (decoded s .survey)
-  by-verdict w e = ap (λ u. answerBy refused look u (decoded s .survey)) (sym e ∙ ap (λ t. t .verdict) is ∙ tabled-verdict (decoded s))
+-- any lookup on a file's own table is the answer from the file
+pub answer-in-file : {A : Type 0} (refused : Refusal → A) (look : ℕ → ℕ → List ℕ → A) (file : Decoded)
+    → answerIn refused look (tabled file) ≡ answerFrom refused look file
+unfolding tabled
+answer-in-file {A} refused look file = go (verdictOn file mostRows) refl
+  where
+    go : (w : Verdict) → verdictOn file mostRows ≡ w
+        → answerIn refused look (tabledBy w (file .survey) (tableLeft file noRows))
+        ≡ answerBy refused look w (diameterUnits (file .survey .tank .dh)) (file .survey .step) (tableOf (file .survey))
+    go Passed e = ap (look _ _) (front-is-table file noRows (rw no-rows-room e))
+    go (Refused r) e = refl
 
-  pub answer-made : t .verdict ≡ Passed → look (t .dh) (t .step) (take (t .rows) (t .table)) ≡ answerBy refused look (verdictOn (decoded s) mostRows) (decoded s .survey)
-  answer-made passed =
-      let found = ready-file s is passed in
-      ap₂ (λ d k. look d k (take (t .rows) (t .table))) (found .dh-is) (found .step-is)
-      ∙ ap (look _ _) (found .front)
-      ∙ by-verdict Passed passed
+-- the last row of a table that was made is the survey's
+pub last-row-own : (file : Decoded) → tabled file .verdict ≡ Passed → lastRow (tabled file) ≡ row (tableOf (file .survey)) (rowsIn (file .survey) - 1)
+unfolding lastRow tabled
+last-row-own file is-passed =
+    let passed = sym (tabled-verdict file) ∙ is-passed in
+    rw (passed, front-is-table file noRows (rw no-rows-room passed), length-rowsOf (cellOf (file .survey)) (rowsIn (file .survey)))
 
-  pub answer-refused : (r : Refusal) → t .verdict ≡ Refused r → refused r ≡ answerBy refused look (verdictOn (decoded s) mostRows) (decoded s .survey)
-  answer-refused r e = by-verdict (Refused r) e
+pub last-row-told : (t : Tabled) {r : ℕ} → r ≡ lastRow t
+    → (r ≡ lastRow t) × ((file : Decoded) → t ≡ tabled file → t .verdict ≡ Passed → r ≡ row (tableOf (file .survey)) (rowsIn (file .survey) - 1))
+last-row-told t e = (e, λ file is passed. e ∙ ap lastRow is ∙ last-row-own file (sym (ap (λ t. t .verdict) is) ∙ passed))

@@ -12,8 +12,9 @@ use lookup::litres::LitresAnswer;
 use measure::dip_height::DipHeight;
 use measure::volume::Volume;
 use survey::decode::LARGEST_FILE;
-use survey_lookup::height_from;
-use survey_lookup::litres_from;
+use survey_lookup::height_in;
+use survey_lookup::litres_in;
+use survey_lookup::table_of;
 use text::line::Line;
 use text::line::figure_line;
 use text::line::refused_line;
@@ -36,7 +37,7 @@ fn say_use() {
 }
 
 fn answer_litres(survey: &[u8], asked: u32) {
-    let answer = litres_from(survey, DipHeight::of(asked));
+    let answer = litres_in(table_of(survey), DipHeight::of(asked));
     match answer {
         LitresAnswer::Litres(v) => write_line(figure_line(v.units())),
         LitresAnswer::Refused(r) => write_line(refused_line(r.number, r.place)),
@@ -44,7 +45,7 @@ fn answer_litres(survey: &[u8], asked: u32) {
 }
 
 fn answer_height(survey: &[u8], asked: u32) {
-    let answer = height_from(survey, Volume::of(asked));
+    let answer = height_in(table_of(survey), Volume::of(asked));
     match answer {
         HeightAnswer::Height(h) => write_line(figure_line(h.units())),
         HeightAnswer::Refused(r) => write_line(refused_line(r.number, r.place)),
