@@ -19,8 +19,8 @@ use Rattle.survey.specs.Word.{word, signedWord}
 use Rattle.survey.specs.Layout.{today, headerEnd, kindAt, dhAt, l1At, leftAt, rightAt, l2At, l3At, stepAt, coursesAt, deadwoodAt}
 use Rattle.survey.specs.Layout.{courseEnd, itemEnd, firstIn, secondIn, lengthIn, thicknessIn, lowIn, highIn, volumeIn}
 use Rattle.survey.specs.Limits.{largestFile}
-use Rattle.survey.specs.Section.{courses, deadwood, sections, recordAt, endOf, placed}
-use Rattle.survey.specs.SectionLaws.{Readable, recordLong}
+use Rattle.survey.specs.Section.{courses, deadwood, sections, recordAt, endOf, placed, recordLong}
+use Rattle.survey.specs.SectionLaws.{Readable}
 use Rattle.survey.specs.Item.{itemFrom}
 use Rattle.survey.specs.Dimensions.{sumOf, added, sumsOver, sumsOf, shellDiameter, d1, d2}
 use Rattle.survey.specs.Tests.{countTests, apartTests, placeTests, layoutTests, headerTests, numberTests, dimensionTests, fileTests}

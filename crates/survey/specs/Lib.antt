@@ -9,6 +9,8 @@ pub mod Dimensions
 pub mod Tests
 pub mod Judged
 pub mod Survey
+pub mod Sentence
+pub mod Fault
 pub mod SectionLaws
 pub mod CourseLaws
 pub mod JudgedLaws

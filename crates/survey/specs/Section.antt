@@ -11,8 +11,13 @@ use Rattle.survey.specs.declared.section.Section.{Section}
 use Rattle.survey.specs.declared.section.Records.{Records}
 use Rattle.survey.specs.declared.section.Records.the-variants.{Courses, Deadwood}
 use Rattle.survey.specs.Word.{word}
-use Rattle.survey.specs.Layout.{coursesAt, deadwoodAt}
+use Rattle.survey.specs.Layout.{coursesAt, deadwoodAt, courseEnd, itemEnd}
 use Rattle.survey.specs.Limits.{mostCourses}
+
+-- the words of a record of a kind
+abbrev pub recordLong : Records → ℕ
+recordLong Courses = courseEnd
+recordLong Deadwood = itemEnd
 
 -- a section of records of a size, whose count and byte offset stand at a byte of the header
 abbrev pub sectionAt : Records → (at size : ℕ) → List ℕ → Section

@@ -16,20 +16,19 @@ use Rattle.refusal.specs.TestLaws.{passed-all, within-pass}
 use Rattle.deadwood.specs.Item.{mostItems}
 use Rattle.survey.specs.declared.format.Format.{Format}
 use Rattle.survey.specs.declared.section.Section.{Section}
-use Rattle.survey.specs.declared.section.Records.{Records}
-use Rattle.survey.specs.declared.section.Records.the-variants.{Courses, Deadwood}
 use Rattle.survey.specs.Layout.{headerEnd, courseEnd, itemEnd}
 use Rattle.survey.specs.Limits.{largestFile, mostCourses}
-use Rattle.survey.specs.Section.{courses, deadwood, recordAt, endOf, countFits, placed}
+use Rattle.survey.specs.Section.{courses, deadwood, recordAt, endOf, countFits, placed, recordLong}
 use Rattle.survey.specs.Tests.{layoutTests}
 
 -- a bound on the length of a record
 abbrev pub longestRecord : ℕ
 longestRecord = 64
 
--- the words of document 01 lie inside header and records, and records are short
+-- the words of document 01 lie inside header and records, some file can hold the header, and records are short
 pub record Readable (f : Format) : Type 0 where
   pub header : headerEnd ≤ f .header
+  pub header-short : f .header ≤ largestFile
   pub course : courseEnd ≤ f .course
   pub course-short : f .course ≤ longestRecord
   pub deadwood : itemEnd ≤ f .deadwood
@@ -43,11 +42,6 @@ pub record Small (x : Section) : Type 0 where
 
 pub small-end : (x : Section) → Small x → endOf x < 2 ^ 63
 small-end x small = omega (arith, mul-le-mul (small .size) (le-of-lt (small .count)))
-
--- the words of a record of a kind
-abbrev pub recordLong : Records → ℕ
-recordLong Courses = courseEnd
-recordLong Deadwood = itemEnd
 
 -- a section whose records lie inside a file that has its header
 pub record Inside (s : List ℕ) (x : Section) : Type 0 where

@@ -179,7 +179,7 @@ survey-fits f s readable e =
 
 -- today's format can be read
 pub today-readable : Readable today
-today-readable = record { header = omega arith; course = omega arith; course-short = omega arith; deadwood = omega arith; deadwood-short = omega arith }
+today-readable = record { header = omega arith; header-short = omega arith; course = omega arith; course-short = omega arith; deadwood = omega arith; deadwood-short = omega arith }
 
 pub decoded-fits : (s : List ℕ) → WithinLimits (decoded s)
 unfolding decoded

@@ -111,8 +111,24 @@ fn inside(outer: u64, wall: u64) -> u64
     if wall <= outer { outer - wall } else { 0 }
 }
 
+// D1, from the courses.
+pub fn shell_diameter(t: Sums) -> u64
+    requires { ⌜ SumsSmall t × (1 ≤ t .lengths) × (1 ≤ t .count) ⌝ }
+    ensures { λ r. ⌜ r ≡ shellDiameter t ⌝ }
+{
+    inside(outer_diameter(t.readings, t.lengths), wall(t))
+}
+
+// D2, of flange and head, from the circumferences at the shell's ends.
+pub fn head_diameter(t: Sums, left: u32, right: u32) -> u64
+    requires { ⌜ SumsSmall t × (1 ≤ t .count) ⌝ }
+    ensures { λ r. ⌜ r ≡ headDiameter t left right ⌝ }
+{
+    inside(outer_diameter(left as u64 + right as u64, 1), wall(t))
+}
+
 // The diameter of so many u, where it is within its limits and not far from DH.
-fn fitting(d: u64, dh: u32) -> Measured
+pub fn fitting(d: u64, dh: u32) -> Measured
     ensures { λ r. ⌜ r ≡ pick (diameterFits d dh) (Measured.Within (diameter d)) Measured.Outside ⌝ }
 {
     if dh as u64 + FARTHEST < d {
@@ -124,7 +140,7 @@ fn fitting(d: u64, dh: u32) -> Measured
     Diameter::of(d)
 }
 
-// D1 from the courses, and D2, of flange and head, from the circumferences at the shell's ends; DH is within its limits.
+// DH, D1 and D2; DH is within its limits.
 pub fn diameters(t: Sums, left: u32, right: u32, dh: u32) -> Dimensions
     requires { ⌜ SumsSmall t × (1 ≤ t .lengths) × (1 ≤ t .count) × (smallest ≤ dh) × (dh ≤ largest) ⌝ }
     ensures { λ r. ⌜ r ≡ dimensions dh (shellDiameter t) (headDiameter t left right) ⌝ }
@@ -133,13 +149,10 @@ pub fn diameters(t: Sums, left: u32, right: u32, dh: u32) -> Dimensions
         number: 7,
         place: 0,
     });
-    let wall = wall(t);
-    let courses = outer_diameter(t.readings, t.lengths);
-    let ends = outer_diameter(left as u64 + right as u64, 1);
-    let Measured::Within(d1) = fitting(inside(courses, wall), dh) else {
+    let Measured::Within(d1) = fitting(shell_diameter(t), dh) else {
         return unfit;
     };
-    let Measured::Within(d2) = fitting(inside(ends, wall), dh) else {
+    let Measured::Within(d2) = fitting(head_diameter(t, left, right), dh) else {
         return unfit;
     };
     let Measured::Within(dip_point) = Diameter::of(dh as u64) else {

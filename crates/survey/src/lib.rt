@@ -2,10 +2,13 @@
 // else sees a byte of it.
 pub mod decode;
 mod dimensions;
+pub mod fault;
+mod field;
 mod format;
 mod judge;
 mod layout;
 mod limits;
 mod numbers;
 mod section;
+mod sentence;
 mod word;

@@ -64,7 +64,7 @@ pub fn record_at(x: Section, i: usize) -> usize
 }
 
 // The count of a section of such records is within its limits.
-fn count_fits(records: Records, count: usize) -> bool
+pub fn count_fits(records: Records, count: usize) -> bool
     ensures { λ r. ⌜ r ≡ countFits records count ⌝ }
 {
     match records {
@@ -74,7 +74,7 @@ fn count_fits(records: Records, count: usize) -> bool
 }
 
 // Behind the header and inside the file; an empty section's offset is not looked at.
-fn is_placed(header: usize, file_size: usize, x: Section) -> bool
+pub fn is_placed(header: usize, file_size: usize, x: Section) -> bool
     requires { ⌜ Small x ⌝ }
     ensures { λ r. ⌜ r ≡ placed header «file_size» x ⌝ }
 {
@@ -85,7 +85,7 @@ fn is_placed(header: usize, file_size: usize, x: Section) -> bool
 }
 
 // No byte in both.
-fn are_apart(x: Section, y: Section) -> bool
+pub fn are_apart(x: Section, y: Section) -> bool
     requires { ⌜ Small x × Small y ⌝ }
     ensures { λ r. ⌜ r ≡ apart x y ⌝ }
 {

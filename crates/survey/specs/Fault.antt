@@ -1,0 +1,226 @@
+-- What a refusal of a file is about: the sentence that says it, the record or row that it counts, the number that was refused and the
+-- limits that it missed. Of any bytes, any number and any place. Assumes nothing.
+use Prim.Native.Nat.{ℕ, _+_, _-_, _/_, _%_, min}
+use mathlib.Core.Bool.{Bool, true, false, _&&_, _||_}
+use mathlib.Core.List.{List, [], _∷_}
+use lib.Dec.{leb, ltb, eqb}
+use lib.IntN.{pos, negℤ}
+use lib.ListN.{length, getD}
+use Rattle.laws.specs.Order.{pick}
+use Rattle.measure.specs.Diameter.{smallest, largest}
+use Rattle.schedule.specs.Rows.{smallestStep, largestStep, rowHeight}
+use Rattle.refusal.specs.declared.Verdict.{Verdict}
+use Rattle.refusal.specs.declared.Verdict.the-variants.{Passed, Refused}
+use Rattle.refusal.specs.Test.{verdict, within}
+use Rattle.heads.specs.declared.kind.HeadKind.{HeadKind}
+use Rattle.heads.specs.declared.kind.HeadKind.the-variants.{Flat, HalfEllipsoid}
+use Rattle.heads.specs.Kind.{kindOf}
+use Rattle.heads.specs.Length.{longest}
+use Rattle.tank.specs.Limits.{longestShell, longestFlange}
+use Rattle.deadwood.specs.Item.{mostItems, largestVolume}
+use Rattle.survey.specs.declared.fault.Fault.{Fault}
+use Rattle.survey.specs.declared.field.Limits.{Limits}
+use Rattle.survey.specs.declared.format.Format.{Format}
+use Rattle.survey.specs.declared.section.Section.{Section}
+use Rattle.survey.specs.declared.section.Records.{Records}
+use Rattle.survey.specs.declared.section.Records.the-variants.{Courses, Deadwood}
+use Rattle.survey.specs.Word.{word, signedWord}
+use Rattle.survey.specs.Layout.{today, headerEnd, kindAt, dhAt, l1At, stepAt, coursesAt, deadwoodAt, highIn, volumeIn}
+use Rattle.survey.specs.Limits.{largestFile, mostCourses, shortestCircumference, longestCircumference, shortestShell, shortestCourse, thinnest, thickest}
+use Rattle.survey.specs.Section.{courses, deadwood, sections, endOf, countFits, placed, apart, recordLong}
+use Rattle.survey.specs.Dimensions.{sumsOf, d1, d2, diameterFits}
+use Rattle.survey.specs.Sentence.{ofCourses, ofDeadwood, ofSize, ofLargeFile, ofOverlap, ofLengths, ofShellDiameter, ofHeadDiameter}
+use Rattle.survey.specs.Sentence.{ofLentTable, ofFallingRow, ofRowBelowZero, ofUnknown}
+use Rattle.survey.specs.Tests.{layoutTests, numberTests}
+
+abbrev pub faultWith : (sentence item value low high : ℕ) → Fault
+faultWith sentence item value low high = record { sentence = sentence; item = item; value = pos value; low = pos low; high = pos high }
+
+-- a refusal that is not one of this survey's
+abbrev pub unknown : (number place : ℕ) → Fault
+unknown number place = faultWith ofUnknown number place 0 0
+
+-- refusal 1: a size past the largest is not named, which a number of 64 bits need not hold
+unfoldable pub sizeFault : Format → List ℕ → Fault
+sizeFault f s =
+    pick (leb (length s) largestFile)
+    (faultWith ofSize 0 (length s) (f .header) largestFile)
+    (faultWith ofLargeFile 0 0 (f .header) largestFile)
+
+-- the header
+
+abbrev pub limits : (low high : ℕ) → Limits
+limits low high = record { low = low; high = high }
+
+abbrev circumference : Limits
+circumference = limits shortestCircumference longestCircumference
+
+-- of one head's length, by its kind
+abbrev pub lengthLimits : HeadKind → Limits
+lengthLimits Flat = limits 0 0
+lengthLimits HalfEllipsoid = limits 1 longest
+
+-- of a section's byte offset: behind the header and inside the file; of a file past the largest that one's size is named
+abbrev pub offsetLimits : Format → List ℕ → Limits
+offsetLimits f s = limits (f .header) (min (length s) largestFile)
+
+-- of the header's words, in their order
+unfoldable pub headerLimits : Format → List ℕ → List Limits
+headerLimits f s =
+    limits 0 1
+    ∷ limits smallest largest
+    ∷ limits shortestShell longestShell
+    ∷ circumference
+    ∷ circumference
+    ∷ limits 0 longestFlange
+    ∷ lengthLimits (kindOf (word s kindAt))
+    ∷ limits smallestStep largestStep
+    ∷ limits 1 mostCourses
+    ∷ offsetLimits f s
+    ∷ limits 0 mostItems
+    ∷ offsetLimits f s
+    ∷ []
+
+-- one of a list of limits
+abbrev pub limitsAt : List Limits → ℕ → Limits
+limitsAt list w = getD list w (limits 0 0)
+
+-- the byte offset of a section counts the records that start there, whose count stands before it
+abbrev pub headerItem : List ℕ → ℕ → ℕ
+headerItem s at = pick (eqb at (coursesAt + 4) || eqb at (deadwoodAt + 4)) (word s (at - 4)) 0
+
+-- the header's number at a byte
+unfoldable pub headerFault : Format → List ℕ → ℕ → Fault
+headerFault f s at =
+    let of = limitsAt (headerLimits f s) (at / 4) in
+    faultWith (at / 4) (headerItem s at) (word s at) (of .low) (of .high)
+
+-- refusal 2: the first count that is outside its limits
+unfoldable pub countFault : Format → List ℕ → Fault
+countFault f s = pick (countFits Courses (courses f s .count)) (headerFault f s deadwoodAt) (headerFault f s coursesAt)
+
+-- refusal 3: the courses, then what both have, then the deadwood
+unfoldable pub placeFault : Format → List ℕ → Fault
+placeFault f s =
+    pick (placed (f .header) (length s) (courses f s))
+    (pick (apart (courses f s) (deadwood f s))
+    (headerFault f s (deadwoodAt + 4))
+    (faultWith ofOverlap (deadwood f s .count) (deadwood f s .offset) 0 0))
+    (headerFault f s (coursesAt + 4))
+
+-- the records: the number at byte `at`, which is byte k of record `item` as one counts them from 1
+
+abbrev pub courseLimits : List Limits
+courseLimits = circumference ∷ circumference ∷ limits shortestCourse longestShell ∷ limits thinnest thickest ∷ []
+
+unfoldable pub courseFault : List ℕ → (at item k : ℕ) → Fault
+courseFault s at item k =
+    let of = limitsAt courseLimits (k / 4) in
+    faultWith (ofCourses + k / 4) item (word s at) (of .low) (of .high)
+
+-- a volume has a sign
+unfoldable pub volumeFault : List ℕ → (at item : ℕ) → Fault
+volumeFault s at item =
+    record {
+      sentence = ofDeadwood + volumeIn / 4;
+      item = item;
+      value = signedWord s at;
+      low = negℤ (pos largestVolume);
+      high = pos largestVolume;
+    }
+
+-- of the heights only the high one has a limit that is the same for all items, DH
+unfoldable pub itemFault : List ℕ → (at item k : ℕ) → Fault
+itemFault s at item k =
+    pick (eqb k volumeIn) (volumeFault s at item)
+    (faultWith (ofDeadwood + k / 4) item (word s at) 0 (pick (eqb k highIn) (word s dhAt) 0))
+
+abbrev pub recordFault : Records → List ℕ → (at item k : ℕ) → Fault
+recordFault Courses s at item k = courseFault s at item k
+recordFault Deadwood s at item k = itemFault s at item k
+
+-- the byte lies in the section
+abbrev pub holds : Section → ℕ → Bool
+holds x place = leb (x .offset) place && ltb place (endOf x)
+
+-- a word starts at byte k of the words that end at byte `end`
+abbrev pub startsWord : (k end : ℕ) → Bool
+startsWord k end = eqb (k % 4) 0 && ltb k end
+
+-- refusal 5: the number at a byte of a section ..
+unfoldable pub fieldFault : Section → List ℕ → ℕ → Fault
+fieldFault x s place =
+    let behind = place - x .offset in
+    let k = behind % x .size in
+    pick (startsWord k (recordLong (x .records))) (recordFault (x .records) s place (behind / x .size + 1) k) (unknown 5 place)
+
+-- .. of the first of the sections that has that byte
+abbrev pub sectionsFault : List Section → List ℕ → ℕ → Fault
+sectionsFault [] s place = unknown 5 place
+sectionsFault (x ∷ xs) s place = pick (holds x place) (fieldFault x s place) (sectionsFault xs s place)
+
+-- .. and of the header, which is before them all
+unfoldable pub numberFault : Format → List ℕ → ℕ → Fault
+numberFault f s place =
+    pick (leb (place + 4) (length s))
+    (pick (ltb place (f .header))
+    (pick (startsWord place headerEnd) (headerFault f s place) (unknown 5 place))
+    (sectionsFault (sections f s) s place))
+    (unknown 5 place)
+
+-- refusals 6 and 7, which are given to no file but one that passes the five before
+
+abbrev pub passed : Verdict → Bool
+passed Passed = true
+passed (Refused r) = false
+
+unfoldable pub numbersPass : Format → List ℕ → Bool
+numbersPass f s = within (f .header) (length s) largestFile && (passed (verdict (layoutTests f s)) && passed (verdict (numberTests f s)))
+
+unfoldable pub lengthsFault : Format → List ℕ → Fault
+lengthsFault f s = faultWith ofLengths 0 (sumsOf f s .lengths) 0 (word s l1At)
+
+-- D1 where that does not fit, else D2
+unfoldable pub diameterFault : Format → List ℕ → Fault
+diameterFault f s =
+    pick (diameterFits (d1 f s) (word s dhAt))
+    (faultWith ofHeadDiameter (word s dhAt) (d2 f s) smallest largest)
+    (faultWith ofShellDiameter (word s dhAt) (d1 f s) smallest largest)
+
+unfoldable pub dimensionFault : Format → List ℕ → (number place : ℕ) → Fault
+dimensionFault f s number place =
+    pick (numbersPass f s) (pick (eqb number 6) (lengthsFault f s) (diameterFault f s)) (unknown number place)
+
+-- refusals 9 and 10: a row, and its height
+unfoldable pub rowFault : List ℕ → (sentence row : ℕ) → Fault
+rowFault s sentence row = faultWith sentence row (rowHeight (word s dhAt) (word s stepAt) row) 0 0
+
+-- what a list has for a number, else the other
+abbrev pub listed : ℕ → Fault → List (ℕ × Fault) → Fault
+listed number other [] = other
+listed number other (x ∷ xs) = pick (eqb number (x .0)) (x .1) (listed number other xs)
+
+-- every refusal but the first, of a file that has its header
+unfoldable pub headedFault : Format → List ℕ → (number place : ℕ) → Fault
+headedFault f s number place =
+    listed number (unknown number place)
+    ((2, countFault f s)
+    ∷ (3, placeFault f s)
+    ∷ (4, headerFault f s kindAt)
+    ∷ (5, numberFault f s place)
+    ∷ (6, dimensionFault f s 6 place)
+    ∷ (7, dimensionFault f s 7 place)
+    ∷ (8, faultWith ofLentTable 0 0 0 0)
+    ∷ (9, rowFault s ofFallingRow place)
+    ∷ (10, rowFault s ofRowBelowZero place)
+    ∷ [])
+
+-- of a file in a format
+unfoldable pub faultAs : Format → List ℕ → (number place : ℕ) → Fault
+faultAs f s number place =
+    pick (eqb number 1) (sizeFault f s)
+    (pick (leb (f .header) (length s)) (headedFault f s number place) (unknown number place))
+
+-- .. and in today's
+unfoldable pub faultOf : List ℕ → (number place : ℕ) → Fault
+faultOf s number place = faultAs today s number place

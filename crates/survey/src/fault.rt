@@ -1,0 +1,234 @@
+// What a refusal is about: the sentence that says it, and the numbers that the sentence names.
+ghost use mathlib.Core.Path.{_≡_};
+ghost use Prim.Native.Nat.{_+_, _^_, _≤_, _<_};
+ghost use lib.ListN.{length};
+ghost use Rattle.measure.specs.Diameter.{smallest, largest};
+ghost use Rattle.survey.specs.Layout.{headerEnd};
+ghost use Rattle.survey.specs.SectionLaws.{Readable};
+ghost use Rattle.survey.specs.SurveyLaws.{NumbersFit};
+ghost use Rattle.survey.specs.Fault.{faultWith, unknown, sizeFault, countFault, placeFault, passed, numbersPass};
+ghost use Rattle.survey.specs.Fault.{lengthsFault, diameterFault, dimensionFault, rowFault, headedFault, faultAs, faultOf};
+use crate::dimensions::fitting;
+use crate::dimensions::head_diameter;
+use crate::dimensions::shell_diameter;
+use crate::dimensions::sums_over;
+use crate::field::header_fault;
+use crate::field::number_fault;
+use crate::format::Format;
+use crate::layout;
+use crate::limits::LARGEST_FILE;
+use crate::limits::is_within;
+use crate::numbers::numbers_tested;
+use crate::section::Records;
+use crate::section::are_apart;
+use crate::section::count_fits;
+use crate::section::courses;
+use crate::section::deadwood;
+use crate::section::is_placed;
+use crate::section::layout_tested;
+use crate::sentence;
+use crate::word::word;
+use measure::diameter::Diameter;
+use measure::diameter::Measured;
+use refusal::Verdict;
+
+pub struct Fault {
+    // the sentence's place in the list of sentences
+    pub sentence: u32,
+    // a record's number counted from 1, a row's index, ..; 0 where nothing is counted
+    pub item: u32,
+    // the number that was refused, and the limits that it missed
+    pub value: i64,
+    pub low: i64,
+    pub high: i64,
+}
+
+pub fn fault_with(sentence: u32, item: u32, value: u64, low: u32, high: u32) -> Fault
+    requires { ⌜ value < 2 ^ 63 ⌝ }
+    ensures { λ r. ⌜ r ≡ faultWith sentence item value low high ⌝ }
+{
+    Fault {
+        sentence,
+        item,
+        value: value as i64,
+        low: low as i64,
+        high: high as i64,
+    }
+}
+
+// A refusal that is not one of this survey's.
+pub fn unknown(number: u32, place: u32) -> Fault
+    ensures { λ r. ⌜ r ≡ unknown number place ⌝ }
+{
+    fault_with(sentence::OF_UNKNOWN, number, place as u64, 0, 0)
+}
+
+// Refusal 1.
+fn size_fault(f: Format, s: &[u8]) -> Fault
+    requires { ⌜ Readable f ⌝ }
+    ensures { λ r. ⌜ r ≡ sizeFault f (now (s .entry)) ⌝ }
+{
+    let low = f.header as u32;
+    let high = LARGEST_FILE as u32;
+    if s.len() <= LARGEST_FILE {
+        return fault_with(sentence::OF_SIZE, 0, s.len() as u64, low, high);
+    }
+    fault_with(sentence::OF_LARGE_FILE, 0, 0, low, high)
+}
+
+// Refusal 2: the courses' count where that does not fit, else the deadwood's.
+fn count_fault(f: Format, s: &[u8]) -> Fault
+    requires { ⌜ Readable f × (f .header ≤ length (now s)) ⌝ }
+    ensures { λ r. ⌜ r ≡ countFault f (now (s .entry)) ⌝ }
+{
+    let c = courses(f, s);
+    if count_fits(Records::Courses, c.count) {
+        return header_fault(f, s, layout::DEADWOOD);
+    }
+    header_fault(f, s, layout::COURSES)
+}
+
+// Refusal 3: the courses' place, then that the deadwood overlaps them, then the deadwood's place.
+fn place_fault(f: Format, s: &[u8]) -> Fault
+    requires { ⌜ Readable f × (f .header ≤ length (now s)) ⌝ }
+    ensures { λ r. ⌜ r ≡ placeFault f (now (s .entry)) ⌝ }
+{
+    let c = courses(f, s);
+    if !is_placed(f.header, s.len(), c) {
+        return header_fault(f, s, layout::COURSES + 4);
+    }
+    let d = deadwood(f, s);
+    if are_apart(c, d) {
+        return header_fault(f, s, layout::DEADWOOD + 4);
+    }
+    fault_with(
+        sentence::OF_OVERLAP,
+        word(s, layout::DEADWOOD),
+        word(s, layout::DEADWOOD + 4) as u64,
+        0,
+        0,
+    )
+}
+
+fn passed(v: Verdict) -> bool
+    ensures { λ r. ⌜ r ≡ passed v ⌝ }
+{
+    match v {
+        Verdict::Passed => true,
+        Verdict::Refused(_) => false,
+    }
+}
+
+// Whether a file that has its header passes refusals 1 to 5.
+fn numbers_pass(f: Format, s: &[u8]) -> bool
+    requires { ⌜ Readable f × (f .header ≤ length (now s)) ⌝ }
+    ensures { λ r. ⌜ r ≡ numbersPass f (now (s .entry)) ⌝ }
+{
+    if !is_within(f.header as u64, s.len() as u64, LARGEST_FILE as u64) {
+        return false;
+    }
+    if !passed(layout_tested(f, s)) {
+        return false;
+    }
+    passed(numbers_tested(f, s))
+}
+
+// Refusal 6.
+fn lengths_fault(f: Format, s: &[u8]) -> Fault
+    requires { ⌜ Readable f × NumbersFit f (now s) ⌝ }
+    ensures { λ r. ⌜ r ≡ lengthsFault f (now (s .entry)) ⌝ }
+{
+    let t = sums_over(courses(f, s), s);
+    fault_with(sentence::OF_LENGTHS, 0, t.lengths, 0, word(s, layout::L1))
+}
+
+// A diameter: DH is what it is compared with.
+fn of_diameter(sentence: u32, dh: u32, d: u64) -> Fault
+    requires { ⌜ d < 2 ^ 63 ⌝ }
+    ensures { λ r. ⌜ r ≡ faultWith sentence dh d smallest largest ⌝ }
+{
+    fault_with(sentence, dh, d, Diameter::SMALLEST, Diameter::LARGEST)
+}
+
+// Refusal 7: D1 where that does not fit, else D2.
+fn diameter_fault(f: Format, s: &[u8]) -> Fault
+    requires { ⌜ Readable f × NumbersFit f (now s) ⌝ }
+    ensures { λ r. ⌜ r ≡ diameterFault f (now (s .entry)) ⌝ }
+{
+    let t = sums_over(courses(f, s), s);
+    let dh = word(s, layout::DH);
+    let d1 = shell_diameter(t);
+    let d2 = head_diameter(t, word(s, layout::LEFT), word(s, layout::RIGHT));
+    let measured = fitting(d1, dh);
+    match measured {
+        Measured::Outside => of_diameter(sentence::OF_SHELL_DIAMETER, dh, d1),
+        Measured::Within(_) => of_diameter(sentence::OF_HEAD_DIAMETER, dh, d2),
+    }
+}
+
+// Refusals 6 and 7, which only a file that passes the others can have.
+fn dimension_fault(f: Format, s: &[u8], number: u32, place: u32) -> Fault
+    requires { ⌜ Readable f × (f .header ≤ length (now s)) ⌝ }
+    ensures { λ r. ⌜ r ≡ dimensionFault f (now (s .entry)) number place ⌝ }
+{
+    if !numbers_pass(f, s) {
+        return unknown(number, place);
+    }
+    if number == 6 {
+        return lengths_fault(f, s);
+    }
+    diameter_fault(f, s)
+}
+
+// Refusals 9 and 10: the row's height is DH at most.
+fn row_fault(s: &[u8], sentence: u32, row: u32) -> Fault
+    requires { ⌜ headerEnd ≤ length (now s) ⌝ }
+    ensures { λ r. ⌜ r ≡ rowFault (now (s .entry)) sentence row ⌝ }
+{
+    let height = row as u64 * word(s, layout::STEP) as u64;
+    let dh = word(s, layout::DH) as u64;
+    if height <= dh {
+        return fault_with(sentence, row, height, 0, 0);
+    }
+    fault_with(sentence, row, dh, 0, 0)
+}
+
+// Every refusal but the first, of a file that has its header.
+fn headed_fault(f: Format, s: &[u8], number: u32, place: u32) -> Fault
+    requires { ⌜ Readable f × (f .header ≤ length (now s)) ⌝ }
+    ensures { λ r. ⌜ r ≡ headedFault f (now (s .entry)) number place ⌝ }
+{
+    match number {
+        2 => count_fault(f, s),
+        3 => place_fault(f, s),
+        4 => header_fault(f, s, layout::KIND),
+        5 => number_fault(f, s, place),
+        6 => dimension_fault(f, s, 6, place),
+        7 => dimension_fault(f, s, 7, place),
+        8 => fault_with(sentence::OF_LENT_TABLE, 0, 0, 0, 0),
+        9 => row_fault(s, sentence::OF_FALLING_ROW, place),
+        10 => row_fault(s, sentence::OF_ROW_BELOW_ZERO, place),
+        _ => unknown(number, place),
+    }
+}
+
+// Of a file in a format.
+fn fault_as(f: Format, s: &[u8], number: u32, place: u32) -> Fault
+    requires { ⌜ Readable f ⌝ }
+    ensures { λ r. ⌜ r ≡ faultAs f (now (s .entry)) number place ⌝ }
+{
+    if number == 1 {
+        return size_fault(f, s);
+    }
+    if s.len() < f.header {
+        return unknown(number, place);
+    }
+    headed_fault(f, s, number, place)
+}
+
+// Of any bytes, any number and any place.
+pub fn fault_of(s: &[u8], number: u32, place: u32) -> Fault
+    ensures { λ r. ⌜ r ≡ faultOf (now (s .entry)) number place ⌝ }
+{
+    fault_as(Format::today(), s, number, place)
+}

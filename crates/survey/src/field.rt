@@ -1,0 +1,276 @@
+// What a refused number of the file is: the header's word or the record's word that starts at a byte, with its limits.
+ghost use mathlib.Core.Path.{_≡_};
+ghost use Prim.Native.Nat.{_+_, _%_, _^_, _≤_, _<_};
+ghost use lib.ListN.{length};
+ghost use Rattle.survey.specs.Layout.{headerEnd, courseEnd};
+ghost use Rattle.survey.specs.Section.{recordLong};
+ghost use Rattle.survey.specs.SectionLaws.{Readable, Small};
+ghost use Rattle.survey.specs.Fault.{limits, lengthLimits, offsetLimits, headerLimits, courseLimits, limitsAt, headerItem, headerFault};
+ghost use Rattle.survey.specs.Fault.{courseFault, volumeFault, itemFault, recordFault, holds, startsWord, fieldFault, sectionsFault, numberFault};
+ghost use Rattle.survey.specs.Section.{sections};
+use crate::fault::Fault;
+use crate::fault::fault_with;
+use crate::fault::unknown;
+use crate::format::Format;
+use crate::layout;
+use crate::limits::LARGEST_FILE;
+use crate::limits::LONGEST_CIRCUMFERENCE;
+use crate::limits::MOST_COURSES;
+use crate::limits::SHORTEST_CIRCUMFERENCE;
+use crate::limits::SHORTEST_COURSE;
+use crate::limits::SHORTEST_SHELL;
+use crate::limits::THICKEST;
+use crate::limits::THINNEST;
+use crate::section::Records;
+use crate::section::Section;
+use crate::section::courses;
+use crate::section::deadwood;
+use crate::section::record_at;
+use crate::sentence::OF_COURSES;
+use crate::sentence::OF_DEADWOOD;
+use crate::word::signed_word;
+use crate::word::word;
+use deadwood::item::LARGEST_VOLUME;
+use deadwood::item::MOST_ITEMS;
+use heads::kind::HeadKind;
+use heads::length::LONGEST;
+use measure::diameter::Diameter;
+use schedule::LARGEST_STEP;
+use schedule::SMALLEST_STEP;
+use tank::limits::LONGEST_FLANGE;
+use tank::limits::LONGEST_SHELL;
+
+pub struct Limits {
+    pub low: u32,
+    pub high: u32,
+}
+
+fn between(low: u32, high: u32) -> Limits
+    ensures { λ r. ⌜ r ≡ limits low high ⌝ }
+{
+    Limits { low, high }
+}
+
+// Of one head's length, by its kind.
+fn length_limits(kind: HeadKind) -> Limits
+    ensures { λ r. ⌜ r ≡ lengthLimits kind ⌝ }
+{
+    match kind {
+        HeadKind::Flat => between(0, 0),
+        HeadKind::HalfEllipsoid => between(1, LONGEST),
+    }
+}
+
+// Of a section's byte offset: of a file past the largest that one's size is named.
+fn offset_limits(f: Format, s: &[u8]) -> Limits
+    requires { ⌜ Readable f ⌝ }
+    ensures { λ r. ⌜ r ≡ offsetLimits f (now (s .entry)) ⌝ }
+{
+    if s.len() <= LARGEST_FILE {
+        return between(f.header as u32, s.len() as u32);
+    }
+    between(f.header as u32, LARGEST_FILE as u32)
+}
+
+// Of word w of the header.
+fn header_limits(f: Format, s: &[u8], w: usize) -> Limits
+    requires { ⌜ Readable f × (f .header ≤ length (now s)) × (w < 12) ⌝ }
+    ensures { λ r. ⌜ r ≡ limitsAt (headerLimits f (now (s .entry))) w ⌝ }
+{
+    let circumference = between(SHORTEST_CIRCUMFERENCE, LONGEST_CIRCUMFERENCE);
+    let offset = offset_limits(f, s);
+    let kind = HeadKind::of(word(s, layout::KIND));
+    let list = [
+        between(0, 1),
+        between(Diameter::SMALLEST, Diameter::LARGEST),
+        between(SHORTEST_SHELL, LONGEST_SHELL),
+        circumference,
+        circumference,
+        between(0, LONGEST_FLANGE),
+        length_limits(kind),
+        between(SMALLEST_STEP, LARGEST_STEP),
+        between(1, MOST_COURSES as u32),
+        offset,
+        between(0, MOST_ITEMS as u32),
+        offset,
+    ];
+    list[w]
+}
+
+// The count of a section's records, where the byte is that of their offset; else 0.
+fn header_item(s: &[u8], at: usize) -> u32
+    requires { ⌜ (headerEnd ≤ length (now s)) × (at + 4 ≤ headerEnd) ⌝ }
+    ensures { λ r. ⌜ r ≡ headerItem (now (s .entry)) at ⌝ }
+{
+    if at == layout::COURSES + 4 {
+        return word(s, layout::COURSES);
+    }
+    if at == layout::DEADWOOD + 4 {
+        return word(s, layout::DEADWOOD);
+    }
+    0
+}
+
+// The header's number at a byte.
+pub fn header_fault(f: Format, s: &[u8], at: usize) -> Fault
+    requires { ⌜ Readable f × (f .header ≤ length (now s)) × (at + 4 ≤ headerEnd) ⌝ }
+    ensures { λ r. ⌜ r ≡ headerFault f (now (s .entry)) at ⌝ }
+{
+    let w = at / 4;
+    let of = header_limits(f, s, w);
+    fault_with(
+        w as u32,
+        header_item(s, at),
+        word(s, at) as u64,
+        of.low,
+        of.high,
+    )
+}
+
+// Of word w of a course.
+fn course_limits(w: usize) -> Limits
+    requires { ⌜ w < 4 ⌝ }
+    ensures { λ r. ⌜ r ≡ limitsAt courseLimits w ⌝ }
+{
+    let circumference = between(SHORTEST_CIRCUMFERENCE, LONGEST_CIRCUMFERENCE);
+    let list = [
+        circumference,
+        circumference,
+        between(SHORTEST_COURSE, LONGEST_SHELL),
+        between(THINNEST, THICKEST),
+    ];
+    list[w]
+}
+
+// The number at a byte, which is byte k of a course.
+fn course_fault(s: &[u8], at: usize, item: u32, k: usize) -> Fault
+    requires { ⌜ (at + 4 ≤ length (now s)) × (k < courseEnd) ⌝ }
+    ensures { λ r. ⌜ r ≡ courseFault (now (s .entry)) at item k ⌝ }
+{
+    let w = k / 4;
+    let of = course_limits(w);
+    fault_with(
+        OF_COURSES + w as u32,
+        item,
+        word(s, at) as u64,
+        of.low,
+        of.high,
+    )
+}
+
+// The volume of a deadwood item, which has a sign.
+fn volume_fault(s: &[u8], at: usize, item: u32) -> Fault
+    requires { ⌜ at + 4 ≤ length (now s) ⌝ }
+    ensures { λ r. ⌜ r ≡ volumeFault (now (s .entry)) at item ⌝ }
+{
+    Fault {
+        sentence: OF_DEADWOOD + 2,
+        item,
+        value: signed_word(s, at),
+        low: -LARGEST_VOLUME,
+        high: LARGEST_VOLUME,
+    }
+}
+
+// The number at a byte, which is byte k of a deadwood item. Only the high height has a limit that is the same for all items, DH.
+fn item_fault(s: &[u8], at: usize, item: u32, k: usize) -> Fault
+    requires { ⌜ (headerEnd ≤ length (now s)) × (at + 4 ≤ length (now s)) × (k < 2 ^ 32) ⌝ }
+    ensures { λ r. ⌜ r ≡ itemFault (now (s .entry)) at item k ⌝ }
+{
+    match k {
+        layout::ITEM_VOLUME => volume_fault(s, at, item),
+        layout::HIGH_HEIGHT => fault_with(
+            OF_DEADWOOD + 1,
+            item,
+            word(s, at) as u64,
+            0,
+            word(s, layout::DH),
+        ),
+        _ => fault_with(OF_DEADWOOD + (k / 4) as u32, item, word(s, at) as u64, 0, 0),
+    }
+}
+
+fn record_fault(records: Records, s: &[u8], at: usize, item: u32, k: usize) -> Fault
+    requires { ⌜ (headerEnd ≤ length (now s)) × (at + 4 ≤ length (now s)) × (k < recordLong records) ⌝ }
+    ensures { λ r. ⌜ r ≡ recordFault records (now (s .entry)) at item k ⌝ }
+{
+    match records {
+        Records::Courses => course_fault(s, at, item, k),
+        Records::Deadwood => item_fault(s, at, item, k),
+    }
+}
+
+// Whether a byte lies in a section.
+fn holds(x: Section, place: usize) -> bool
+    requires { ⌜ Small x ⌝ }
+    ensures { λ r. ⌜ r ≡ holds x place ⌝ }
+{
+    x.offset <= place && place < record_at(x, x.count)
+}
+
+// Whether a word starts at byte k of the words that end at a byte.
+fn starts_word(k: usize, end: usize) -> bool
+    ensures { λ r. ⌜ r ≡ startsWord k end ⌝ }
+{
+    k % 4 == 0 && k < end
+}
+
+// Behind the last word of a record.
+fn record_long(records: Records) -> usize
+    ensures { λ r. ⌜ r ≡ recordLong records ⌝ }
+{
+    match records {
+        Records::Courses => layout::COURSE_END,
+        Records::Deadwood => layout::ITEM_END,
+    }
+}
+
+// The number at a byte of a section; the record is counted from 1.
+fn field_fault(x: Section, s: &[u8], place: u32) -> Fault
+    requires { ⌜ (headerEnd ≤ length (now s)) × (place + 4 ≤ length (now s)) × (recordLong (x .records) ≤ x .size) × (x .offset ≤ place) ⌝ }
+    ensures { λ r. ⌜ r ≡ fieldFault x (now (s .entry)) place ⌝ }
+{
+    let at = place as usize;
+    let size = x.size;
+    let behind = at - x.offset;
+    let k = behind % size;
+    let records = x.records;
+    if !starts_word(k, record_long(records)) {
+        return unknown(5, place);
+    }
+    record_fault(records, s, at, (behind / size) as u32 + 1, k)
+}
+
+// The number at a byte behind the header: of the courses where these have that byte, else of the deadwood.
+fn section_fault(f: Format, s: &[u8], place: u32) -> Fault
+    requires { ⌜ Readable f × (f .header ≤ length (now s)) × (place + 4 ≤ length (now s)) ⌝ }
+    ensures { λ r. ⌜ r ≡ sectionsFault (sections f (now (s .entry))) (now (s .entry)) place ⌝ }
+{
+    let c = courses(f, s);
+    if holds(c, place as usize) {
+        return field_fault(c, s, place);
+    }
+    let d = deadwood(f, s);
+    if holds(d, place as usize) {
+        return field_fault(d, s, place);
+    }
+    unknown(5, place)
+}
+
+// The number at any byte.
+pub fn number_fault(f: Format, s: &[u8], place: u32) -> Fault
+    requires { ⌜ Readable f × (f .header ≤ length (now s)) ⌝ }
+    ensures { λ r. ⌜ r ≡ numberFault f (now (s .entry)) place ⌝ }
+{
+    let at = place as usize;
+    if s.len() < at + 4 {
+        return unknown(5, place);
+    }
+    if f.header <= at {
+        return section_fault(f, s, place);
+    }
+    if starts_word(at, layout::HEADER_END) {
+        return header_fault(f, s, at);
+    }
+    unknown(5, place)
+}
