@@ -19,4 +19,5 @@ pub mod LimitLaws
 pub mod WallLaws
 pub mod NumberedLaws
 pub mod IgnoredLaws
+pub mod FaultLaws
 pub mod ExampleLaws

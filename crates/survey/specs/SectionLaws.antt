@@ -16,6 +16,8 @@ use Rattle.refusal.specs.TestLaws.{passed-all, within-pass}
 use Rattle.deadwood.specs.Item.{mostItems}
 use Rattle.survey.specs.declared.format.Format.{Format}
 use Rattle.survey.specs.declared.section.Section.{Section}
+use Rattle.survey.specs.declared.section.Records.{Records}
+use Rattle.survey.specs.declared.section.Records.the-variants.{Courses, Deadwood}
 use Rattle.survey.specs.Layout.{headerEnd, courseEnd, itemEnd}
 use Rattle.survey.specs.Limits.{largestFile, mostCourses}
 use Rattle.survey.specs.Section.{courses, deadwood, recordAt, endOf, countFits, placed, recordLong}
@@ -42,6 +44,11 @@ pub record Small (x : Section) : Type 0 where
 
 pub small-end : (x : Section) → Small x → endOf x < 2 ^ 63
 small-end x small = omega (arith, mul-le-mul (small .size) (le-of-lt (small .count)))
+
+-- a record has words
+pub record-some : (records : Records) → itemEnd ≤ recordLong records
+record-some Courses = omega arith
+record-some Deadwood = omega arith
 
 -- a section whose records lie inside a file that has its header
 pub record Inside (s : List ℕ) (x : Section) : Type 0 where

@@ -3,6 +3,7 @@ use Prim.Native.Nat.{ℕ, _+_, _≤_, _<_}
 use mathlib.Core.Path.{_≡_, refl}
 use mathlib.Core.Bool.{true, _&&_}
 use mathlib.Core.List.{List, [], _++_}
+use native.Mathlib.Nat.{le-refl}
 use native.Mathlib.Omega.{arith}
 use lib.Dec.{leb}
 use lib.IntN.{natAbs}
@@ -35,8 +36,8 @@ use Rattle.survey.specs.Limits.{largestFile, shortestCircumference, long
 use Rattle.survey.specs.Section.{courses, deadwood, sections, recordAt}
 use Rattle.survey.specs.SectionLaws.{Readable, Placed, placed-file}
 use Rattle.survey.specs.Item.{itemFrom}
-use Rattle.survey.specs.Dimensions.{d1, d2, diameterFits}
-use Rattle.survey.specs.CourseLaws.{Courses, course-fits}
+use Rattle.survey.specs.Dimensions.{sumsOf, d1, d2, diameterFits}
+use Rattle.survey.specs.CourseLaws.{Courses, SumsOf, SumsSmall, course-fits, sums-fit, sums-small}
 use Rattle.survey.specs.Tests.{layoutTests, headerTests, courseTests, itemTests, sectionTests, sectionsTests, numberTests, dimensionTests, fileTests}
 use Rattle.survey.specs.Survey.{itemsOf, surveyOf, itemsIn, decodedBy, decoded}
 
@@ -80,6 +81,17 @@ module _ (f : Format) (s : List ℕ) (fit : NumbersFit f s) where
         each = λ i l. course-fits s (recordAt (courses f s) i) (course-passes i l);
       }
 
+  -- the sums over them
+  pub file-sums : SumsOf (courses f s .count) (sumsOf f s)
+  file-sums = sums-fit s (courses f s) courses-fit (courses f s .count) (le-refl (courses f s .count))
+
+  pub file-sums-fit : SumsSmall (sumsOf f s) × (1 ≤ sumsOf f s .lengths) × (1 ≤ sumsOf f s .count)
+  file-sums-fit = (
+    sums-small (courses f s .count) (sumsOf f s) (fit .placed .fewCourses) file-sums,
+    omega (arith, file-sums .some, fit .placed .someCourse),
+    omega (arith, file-sums .count, fit .placed .someCourse),
+  )
+
   -- the item whose record is number i
   listed : ℕ → Deadwood
   listed i = itemFrom s (recordAt (deadwood f s) i)
@@ -116,12 +128,15 @@ module _ (f : Format) (s : List ℕ) (fit : NumbersFit f s) where
   unfolding headerTests
   dh-fits = within-pass smallest (word s dhAt) largest (passed-all (headerTests s) header-passed .0)
 
-  pub ends-fit : (shortestCircumference ≤ word s leftAt) × (shortestCircumference ≤ word s rightAt)
+  abbrev InCircumference : ℕ → Type 0
+  InCircumference n = (shortestCircumference ≤ n) × (n ≤ longestCircumference)
+
+  pub ends-fit : InCircumference (word s leftAt) × InCircumference (word s rightAt)
   unfolding headerTests
   ends-fit =
       let pass = passed-all (headerTests s) header-passed in (
-        within-pass shortestCircumference (word s leftAt) longestCircumference (pass .1 .1 .0) .0,
-        within-pass shortestCircumference (word s rightAt) longestCircumference (pass .1 .1 .1 .0) .0,
+        within-pass shortestCircumference (word s leftAt) longestCircumference (pass .1 .1 .0),
+        within-pass shortestCircumference (word s rightAt) longestCircumference (pass .1 .1 .1 .0),
       )
 
   pub step-fits : (smallestStep ≤ word s stepAt) × (word s stepAt ≤ largestStep)

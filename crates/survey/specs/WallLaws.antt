@@ -18,8 +18,7 @@ use Rattle.survey.specs.Limits.{shortestCircumference, longestCircumfere
 use Rattle.survey.specs.Section.{courses, recordAt}
 use Rattle.survey.specs.Dimensions.{sumOf, sumsOver, sumsOf, outerDiameter, wall, shellDiameter, headDiameter, d1, d2}
 use Rattle.survey.specs.Tests.{courseTests}
-use Rattle.survey.specs.CourseLaws.{SumsOf, sums-fit}
-use Rattle.survey.specs.SurveyLaws.{NumbersFit, course-passes, courses-fit, ends-fit}
+use Rattle.survey.specs.SurveyLaws.{NumbersFit, course-passes, file-sums, ends-fit}
 
 -- of the thickest courses
 abbrev pub thickestWall : ℕ
@@ -55,22 +54,19 @@ readings-at-least s x passed (suc n) l =
     omega (arith, readings-at-least s x passed n (omega arith), reading-at-least s (recordAt x n) (passed n (omega arith)))
 
 module _ (f : Format) (s : List ℕ) (fit : NumbersFit f s) where
-  file-sums : SumsOf (courses f s .count) (sumsOf f s)
-  file-sums = sums-fit s (courses f s) (courses-fit f s fit) (courses f s .count) (le-refl (courses f s .count))
-
   pub wall-at-most : wall (sumsOf f s .thicknesses) (sumsOf f s .count) ≤ thickestWall
   unfolding wall
   wall-at-most =
       nearest-at-most (2 * sumsOf f s .thicknesses) thickestWall (sumsOf f s .count)
-      (omega (arith, file-sums .count, fit .placed .someCourse))
-      (omega (arith, file-sums .count, file-sums .thicknesses))
+      (omega (arith, file-sums f s fit .count, fit .placed .someCourse))
+      (omega (arith, file-sums f s fit .count, file-sums f s fit .thicknesses))
 
   -- the outer diameter of the courses, and that of the shell's ends
 
   pub shell-outer-at-least : smallestOuter ≤ outerDiameter (sumsOf f s .readings) (sumsOf f s .lengths)
   shell-outer-at-least =
       outer-at-least (sumsOf f s .readings) (sumsOf f s .lengths)
-      (omega (arith, file-sums .some, fit .placed .someCourse))
+      (omega (arith, file-sums f s fit .some, fit .placed .someCourse))
       (readings-at-least s (courses f s) (course-passes f s fit) (courses f s .count) (le-refl (courses f s .count)))
 
   pub head-outer-at-least : smallestOuter ≤ outerDiameter (word s leftAt + word s rightAt) 1

@@ -11,10 +11,10 @@ ghost use Rattle.survey.specs.Fault.{lengthsFault, diameterFault, dimens
 use crate::dimensions::fitting;
 use crate::dimensions::head_diameter;
 use crate::dimensions::shell_diameter;
-use crate::dimensions::sums_over;
 use crate::field::header_fault;
 use crate::field::number_fault;
 use crate::format::Format;
+use crate::judge::file_sums;
 use crate::layout;
 use crate::limits::LARGEST_FILE;
 use crate::limits::is_within;
@@ -138,7 +138,7 @@ fn lengths_fault(f: Format, s: &[u8]) -> Fault
     requires { ⌜ Readable f × NumbersFit f (now s) ⌝ }
     ensures { λ r. ⌜ r ≡ lengthsFault f (now (s .entry)) ⌝ }
 {
-    let t = sums_over(courses(f, s), s);
+    let t = file_sums(f, s);
     fault_with(sentence::OF_LENGTHS, 0, t.lengths, 0, word(s, layout::L1))
 }
 
@@ -155,7 +155,7 @@ fn diameter_fault(f: Format, s: &[u8]) -> Fault
     requires { ⌜ Readable f × NumbersFit f (now s) ⌝ }
     ensures { λ r. ⌜ r ≡ diameterFault f (now (s .entry)) ⌝ }
 {
-    let t = sums_over(courses(f, s), s);
+    let t = file_sums(f, s);
     let dh = word(s, layout::DH);
     let d1 = shell_diameter(t);
     let d2 = head_diameter(t, word(s, layout::LEFT), word(s, layout::RIGHT));

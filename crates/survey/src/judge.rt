@@ -2,10 +2,12 @@
 ghost use mathlib.Core.Path.{_≡_};
 ghost use Rattle.refusal.specs.Test.{verdict};
 ghost use Rattle.survey.specs.SectionLaws.{Readable};
+ghost use Rattle.survey.specs.Dimensions.{sumsOf};
 ghost use Rattle.survey.specs.Tests.{dimensionTests, fileTests};
 ghost use Rattle.survey.specs.Judged.{judgedBy};
 ghost use Rattle.survey.specs.SurveyLaws.{NumbersFit};
 use crate::dimensions::Dimensions;
+use crate::dimensions::Sums;
 use crate::dimensions::diameters;
 use crate::dimensions::sums_over;
 use crate::format::Format;
@@ -19,12 +21,20 @@ use crate::word::word;
 use refusal::Refusal;
 use refusal::Verdict;
 
+// The sums over all courses of a file that passes refusals 1 to 5.
+pub fn file_sums(f: Format, s: &[u8]) -> Sums
+    requires { ⌜ Readable f × NumbersFit f (now s) ⌝ }
+    ensures { λ r. ⌜ r ≡ sumsOf f (now (s .entry)) ⌝ }
+{
+    sums_over(courses(f, s), s)
+}
+
 // A file that passes refusals 1 to 5: refusals 6 and 7.
 fn measured(f: Format, s: &[u8]) -> Dimensions
     requires { ⌜ Readable f × NumbersFit f (now s) ⌝ }
     ensures { λ r. ⌜ r ≡ judgedBy f (now (s .entry)) (verdict (dimensionTests f (now (s .entry)))) ⌝ }
 {
-    let t = sums_over(courses(f, s), s);
+    let t = file_sums(f, s);
     if t.lengths != word(s, layout::L1) as u64 {
         return Dimensions::Refused(Refusal {
             number: 6,

@@ -1,0 +1,15 @@
+-- `survey::field::course_fault` meets its contract: what its callees ensure, put together. Assumes nothing.
+use Rattle.survey.specs.Fault.{courseFault}
+use borrow.Author.Needs.{needs}
+use Rattle.survey.proofs.field.course_fault.Statement.{statement}
+use Rattle.survey.proofs.field.course_fault.Tie as tie
+
+returns : tie.Need-returns
+unfolding courseFault
+returns c = rw (c .fault-with .ensures, c .before .word .ensures, c .before .before .course-limits .ensures)
+
+pub course-fault-spec : {M : Type 1} → statement M
+course-fault-spec =
+    tie.close
+    (tie.spec (λ c κs. search needs) (λ c. search needs) (λ c. search needs) (λ c κs. search needs)
+    (λ c. search needs) (λ c κs. search needs) returns)
