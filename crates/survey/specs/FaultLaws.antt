@@ -1,56 +1,212 @@
--- Laws of what a refusal is about. Assumes nothing.
-use Prim.Native.Nat.{ℕ, _+_, _*_, _^_, _≤_, _<_}
-use mathlib.Core.Path.{_≡_, refl, sym}
-use mathlib.Core.Bool.{true, _&&_}
-use mathlib.Core.List.{List}
-use native.Mathlib.Nat.{mul-le-mul-left}
+-- Each number of a file has its sentence: every word of the header, and every word of every record of a section that is well placed, with
+-- the record counted from 1. And the limits that a refusal of a number names are those that the number is tested by. Assumes nothing.
+use Prim.Native.Nat.{ℕ, _+_, _*_, _-_, _/_, _%_, _≤_, _<_}
+use mathlib.Core.Path.{_≡_, refl, sym, _∙_, ap}
+use mathlib.Core.Bool.{Bool, true, false, _&&_, _||_}
+use mathlib.Core.List.{List, [], _∷_, map, List·Memᴰ, List·Memᴰ·head, List·Memᴰ·tail}
+use native.Mathlib.Nat.{mul-le-mul-left, div-eq-of-lt-le, div-add-mod'}
 use native.Mathlib.Omega.{arith}
+use borrow.Author.Tests.{ltb-true, leb-true, eqb-true, lt-ltb, le-ltb, le-leb, lt-leb, eq-eqb, ne-eqb}
+use lib.Dec.{leb, ltb, eqb}
+use lib.IntN.{natAbs}
 use lib.ListN.{length}
-use Rattle.laws.specs.BoolLaws.{true-not-false, both-pass}
-use Rattle.laws.specs.NearestLaws.{nearest-at-most}
-use Rattle.measure.specs.Pi.{piOver, piUnder}
-use Rattle.refusal.specs.declared.Verdict.{Verdict}
-use Rattle.refusal.specs.declared.Verdict.the-variants.{Passed, Refused}
-use Rattle.refusal.specs.Test.{verdict, within}
+use Rattle.laws.specs.BoolLaws.{by-test, both-pass}
+use Rattle.laws.specs.OrderLaws.{by-order}
+use Rattle.refusal.specs.declared.Verdict.the-variants.{Passed}
+use Rattle.refusal.specs.Test.{test, verdict, within}
+use Rattle.refusal.specs.TestLaws.{passed-pick, passed-append}
+use Rattle.heads.specs.declared.kind.HeadKind.{HeadKind}
+use Rattle.heads.specs.declared.kind.HeadKind.the-variants.{Flat, HalfEllipsoid}
+use Rattle.heads.specs.Kind.{kindKnown, kindOf}
+use Rattle.heads.specs.Length.{lengthFits}
+use Rattle.survey.specs.declared.fault.Fault.{Fault}
 use Rattle.survey.specs.declared.format.Format.{Format}
+use Rattle.survey.specs.declared.section.Section.{Section}
+use Rattle.survey.specs.declared.section.Records.{Records}
+use Rattle.survey.specs.declared.section.Records.the-variants.{Courses, Deadwood}
 use Rattle.survey.specs.Word.{word}
-use Rattle.survey.specs.Layout.{leftAt, rightAt}
-use Rattle.survey.specs.Limits.{largestFile}
-use Rattle.survey.specs.Dimensions.{sumsOf, outerDiameter, shellDiameter, headDiameter, d1, d2}
-use Rattle.survey.specs.Tests.{layoutTests, numberTests}
-use Rattle.survey.specs.Fault.{passed, numbersPass}
-use Rattle.survey.specs.SectionLaws.{Readable, placed-file}
-use Rattle.survey.specs.SurveyLaws.{NumbersFit, file-sums-fit, ends-fit}
+use Rattle.survey.specs.Layout.{headerEnd, kindAt, dhAt, l1At, leftAt, rightAt, l2At, l3At, stepAt, coursesAt, deadwoodAt}
+use Rattle.survey.specs.Layout.{firstIn, secondIn, lengthIn, thicknessIn, volumeIn}
+use Rattle.survey.specs.Section.{courses, deadwood, sections, recordAt, endOf, countFits, placed, apart, recordLong}
+use Rattle.survey.specs.SectionLaws.{Readable, placed-inside}
+use Rattle.survey.specs.Sentence.{ofCourses, ofDeadwood}
+use Rattle.survey.specs.Tests.{apartTests, placeTests, headerTests, courseTests}
+use Rattle.survey.specs.Fault.{lengthLimits, headerLimits, courseLimits, limitsAt, headerFault, courseFault, volumeFault, itemFault, recordFault}
+use Rattle.survey.specs.Fault.{holds, startsWord, fieldFault, sectionsFault, numberFault, headedFault, faultAs}
 
--- what the tests before refusals 6 and 7 promise
+starts-word : (k end : ℕ) → k % 4 ≡ 0 → k < end → startsWord k end ≡ true
+starts-word k end whole inside = rw (eq-eqb (k % 4) 0 whole, lt-ltb k end inside)
 
-pub passed-verdict : (v : Verdict) → passed v ≡ true → v ≡ Passed
-passed-verdict Passed e = refl
-passed-verdict (Refused r) e = absurd (true-not-false (sym e))
+-- a record's sentence
 
-pub layout-passes : (f : Format) (s : List ℕ) → numbersPass f s ≡ true → Readable f → NumbersFit f s
-unfolding numbersPass
-layout-passes f s e readable =
-    let size = both-pass (within (f .header) (length s) largestFile) (passed (verdict (layoutTests f s)) && passed (verdict (numberTests f s))) e in
-    let both = both-pass (passed (verdict (layoutTests f s))) (passed (verdict (numberTests f s))) (size .1) in
-    record {
-      placed = placed-file f s readable (size .0) (passed-verdict (verdict (layoutTests f s)) (both .0));
-      numbers = passed-verdict (verdict (numberTests f s)) (both .1);
-    }
+abbrev pub ofRecords : Records → ℕ
+ofRecords Courses = ofCourses
+ofRecords Deadwood = ofDeadwood
 
--- D1 and D2 are no more than what they are made of, so they fit 64 bits with a sign
+record-sentence : (records : Records) (s : List ℕ) (at item w : ℕ)
+    → (recordFault records s at item (4 * w) .sentence ≡ ofRecords records + w) × (recordFault records s at item (4 * w) .item ≡ item)
+unfolding courseFault volumeFault itemFault
+record-sentence Courses s at item w = (omega arith, refl)
+record-sentence Deadwood s at item w =
+    by-test (eqb (4 * w) volumeIn)
+    (λ e. rw e (omega (arith, eqb-true (4 * w) volumeIn e), refl))
+    (λ e. rw e (omega arith, refl))
 
-outer-at-most : (readings lengths : ℕ) → 1 ≤ lengths → outerDiameter readings lengths ≤ piUnder * readings
-unfolding outerDiameter
-outer-at-most readings lengths some =
-    let divisor : 1 ≤ 2 * piOver * lengths = omega arith in
-    nearest-at-most (piUnder * readings) (piUnder * readings) (2 * piOver * lengths) divisor (omega (arith, mul-le-mul-left (piUnder * readings) divisor))
+-- word w of record i of a section
+module _ (x : Section) (s : List ℕ) (i w : ℕ) (long : recordLong (x .records) ≤ x .size) (inside : 4 * w + 4 ≤ recordLong (x .records)) where
+  field-number : fieldFault x s (recordAt x i + 4 * w) ≡ recordFault (x .records) s (recordAt x i + 4 * w) (i + 1) (4 * w)
+  unfolding fieldFault
+  field-number =
+      let behind : recordAt x i + 4 * w - x .offset ≡ i * x .size + 4 * w = omega arith in
+      let which : (i * x .size + 4 * w) / x .size ≡ i = div-eq-of-lt-le (x .size) (omega arith) (omega arith) in
+      let byte : (i * x .size + 4 * w) % x .size ≡ 4 * w = omega (arith, rw which at (div-add-mod' (i * x .size + 4 * w) (x .size))) in
+      rw (behind, which, byte, starts-word (4 * w) (recordLong (x .records)) (omega arith) (omega arith))
 
-pub diameters-small : (f : Format) (s : List ℕ) → NumbersFit f s → (d1 f s < 2 ^ 63) × (d2 f s < 2 ^ 63)
-unfolding shellDiameter headDiameter
-diameters-small f s fit =
-    let sums = file-sums-fit f s fit in
-    let ends = word s leftAt + word s rightAt in (
-      omega (arith, sums .0 .readings, outer-at-most (sumsOf f s .readings) (sumsOf f s .lengths) (sums .1)),
-      omega (arith, ends-fit f s fit, outer-at-most ends 1 (omega arith)),
-    )
+  field-held : i < x .count → holds x (recordAt x i + 4 * w) ≡ true
+  field-held l =
+      let one-more : i + 1 ≤ x .count = omega arith in
+      let last : recordAt x i + 4 * w < endOf x = omega (arith, mul-le-mul-left (x .size) one-more) in
+      rw (le-leb (x .offset) (recordAt x i + 4 * w) (omega arith), lt-ltb (recordAt x i + 4 * w) (endOf x) last)
+
+-- of the sections that are apart, the one that has a byte is the first that has it
+
+by-either : {A : Type 0} (a b : Bool) → a || b ≡ true → (a ≡ true → A) → (b ≡ true → A) → A
+by-either true b e f g = f refl
+by-either false b e f g = g e
+
+held-once : (x y : Section) (place : ℕ) → apart x y ≡ true → holds y place ≡ true → holds x place ≡ false
+unfolding apart
+held-once x y place e h = by-test (holds x place) (λ also. absurd (neither (both x also) (both y h))) (λ no. no)
+  where
+    both : (z : Section) → holds z place ≡ true → (z .offset ≤ place) × (place < endOf z)
+    both z e =
+        let halves = both-pass (leb (z .offset) place) (ltb place (endOf z)) e in
+        (leb-true (z .offset) place (halves .0), ltb-true place (endOf z) (halves .1))
+
+    some : (z : Section) → (z .offset ≤ place) × (place < endOf z) → eqb (z .count) 0 ≡ true → ⊥
+    some z held none = let nothing : z .size * z .count ≡ 0 = rw (eqb-true (z .count) 0 none) (omega arith) in omega arith
+
+    neither : (x .offset ≤ place) × (place < endOf x) → (y .offset ≤ place) × (place < endOf y) → ⊥
+    neither in-x in-y =
+        by-either (eqb (x .count) 0) (eqb (y .count) 0 || (leb (endOf x) (y .offset) || leb (endOf y) (x .offset))) e (some x in-x)
+        (λ e. by-either (eqb (y .count) 0) (leb (endOf x) (y .offset) || leb (endOf y) (x .offset)) e (some y in-y)
+        (λ e. by-either (leb (endOf x) (y .offset)) (leb (endOf y) (x .offset)) e
+        (λ e. omega (arith, leb-true (endOf x) (y .offset) e))
+        (λ e. omega (arith, leb-true (endOf y) (x .offset) e))))
+
+apart-from : (x : Section) (ys : List Section) (y : Section) → verdict (apartTests x ys) ≡ Passed → List·Memᴰ y ys → apart x y ≡ true
+apart-from x (z ∷ zs) y passed (List·Memᴰ·head e) = rw e (passed-pick (apart x z) (verdict (apartTests x zs)) _ passed .0)
+apart-from x (z ∷ zs) y passed (List·Memᴰ·tail m) = apart-from x zs y (passed-pick (apart x z) (verdict (apartTests x zs)) _ passed .1) m
+
+module _ (header : ℕ) (s : List ℕ) (x : Section) where
+  placed-first : (xs : List Section) → verdict (placeTests header (length s) xs) ≡ Passed → List·Memᴰ x xs
+      → (placed header (length s) x ≡ true) × ((place : ℕ) → holds x place ≡ true → sectionsFault xs s place ≡ fieldFault x s place)
+  placed-first (y ∷ ys) passed (List·Memᴰ·head e) = (rw e (passed-pick (placed header (length s) y) _ _ passed .0), λ place h. rw (← e, h))
+  placed-first (y ∷ ys) passed (List·Memᴰ·tail m) =
+      let pass = passed-pick (placed header (length s) y) _ _ passed in
+      let rest = passed-append (apartTests y ys) (placeTests header (length s) ys) (pass .1) in
+      let behind = placed-first ys (rest .1) m in
+      (behind .0, λ place h. rw (held-once y x place (apart-from y ys x (rest .0) m) h) (behind .1 place h))
+
+-- a file in a format, with its header
+module _ (f : Format) (s : List ℕ) (readable : Readable f) (header : f .header ≤ length s) where
+  number-refused : (place : ℕ) → faultAs f s 5 place ≡ numberFault f s place
+  unfolding headedFault faultAs
+  number-refused place = rw (le-leb (f .header) (length s) header)
+
+  header-number : (w : ℕ) → 4 * w + 4 ≤ headerEnd → faultAs f s 5 (4 * w) ≡ headerFault f s (4 * w)
+  unfolding numberFault
+  header-number w inside =
+      number-refused (4 * w)
+      ∙ rw (
+        le-leb (4 * w + 4) (length s) (omega (arith, readable .header)),
+        lt-ltb (4 * w) (f .header) (omega (arith, readable .header)),
+        starts-word (4 * w) headerEnd (omega arith) (omega arith),
+      )
+
+  pub every-header-word-named : (w : ℕ) → 4 * w + 4 ≤ headerEnd → faultAs f s 5 (4 * w) .sentence ≡ w
+  unfolding headerFault
+  every-header-word-named w inside = ap (λ (r : Fault). r .sentence) (header-number w inside) ∙ omega arith
+
+  record-long : (x : Section) → List·Memᴰ x (sections f s) → recordLong (x .records) ≤ x .size
+  record-long x (List·Memᴰ·head e) = rw e (readable .course)
+  record-long x (List·Memᴰ·tail (List·Memᴰ·head e)) = rw e (readable .deadwood)
+
+  -- .. that refusal 3 is not given to, and word w of record i of a section of it
+  module _ (passed : verdict (placeTests (f .header) (length s) (sections f s)) ≡ Passed)
+      (x : Section) (of : List·Memᴰ x (sections f s)) (i : ℕ) (l : i < x .count) (w : ℕ) (inside : 4 * w + 4 ≤ recordLong (x .records)) where
+    record-number : faultAs f s 5 (recordAt x i + 4 * w) ≡ recordFault (x .records) s (recordAt x i + 4 * w) (i + 1) (4 * w)
+    unfolding numberFault
+    record-number =
+        let at = recordAt x i + 4 * w in
+        let long = record-long x of in
+        let first = placed-first (f .header) s x (sections f s) passed of in
+        let there = placed-inside (f .header) (length s) x (first .0) i l in
+        number-refused at
+        ∙ rw (le-leb (at + 4) (length s) (omega (arith, there .1)), le-ltb at (f .header) (omega (arith, there .0)))
+        (first .1 at (field-held x s i w long inside l) ∙ field-number x s i w long inside)
+
+    pub every-record-word-named : let r = faultAs f s 5 (recordAt x i + 4 * w) in (r .sentence ≡ ofRecords (x .records) + w) × (r .item ≡ i + 1)
+    every-record-word-named = rw record-number (record-sentence (x .records) s (recordAt x i + 4 * w) (i + 1) w)
+
+-- the limits that a refusal names are those of the test
+
+abbrev pub withinNamed : Format → List ℕ → ℕ → Bool
+withinNamed f s at = let r = faultAs f s 5 at in within (natAbs (r .low)) (word s at) (natAbs (r .high))
+
+length-within : (kind : HeadKind) (l : ℕ) → lengthFits kind l ≡ within (lengthLimits kind .low) l (lengthLimits kind .high)
+unfolding lengthFits
+length-within Flat l =
+    by-order l 0
+    (λ none. rw (eq-eqb l 0 (omega arith), le-leb 0 l (omega arith), le-leb l 0 none))
+    (λ some. rw (ne-eqb l 0 (λ e. omega arith), le-leb 0 l (omega arith), lt-leb l 0 some))
+length-within HalfEllipsoid l = refl
+
+module _ (f : Format) (s : List ℕ) (readable : Readable f) (header : f .header ≤ length s) where
+  header-named : (w : ℕ) → 4 * w + 4 ≤ headerEnd
+      → let of = limitsAt (headerLimits f s) w in withinNamed f s (4 * w) ≡ within (of .low) (word s (4 * w)) (of .high)
+  unfolding headerFault
+  header-named w inside =
+      let whole : 4 * w / 4 ≡ w = omega arith in
+      rw (header-number f s readable header w inside, whole)
+
+  pub header-limits-are-tested : headerTests s ≡ map (λ at. test 5 at (withinNamed f s at)) (dhAt ∷ l1At ∷ leftAt ∷ rightAt ∷ l2At ∷ l3At ∷ stepAt ∷ [])
+  unfolding headerTests headerLimits
+  header-limits-are-tested =
+      rw (
+        header-named 1 (omega arith),
+        header-named 2 (omega arith),
+        header-named 3 (omega arith),
+        header-named 4 (omega arith),
+        header-named 5 (omega arith),
+        header-named 6 (omega arith),
+        header-named 7 (omega arith),
+        length-within (kindOf (word s kindAt)) (word s l3At),
+      )
+
+  -- of the counts (refusal 2) and the kind of head (refusal 4)
+  pub layout-limits-are-tested : (countFits Courses (courses f s .count) ≡ withinNamed f s coursesAt)
+      × (countFits Deadwood (deadwood f s .count) ≡ withinNamed f s deadwoodAt)
+      × (kindKnown (word s kindAt) ≡ withinNamed f s kindAt)
+  unfolding countFits kindKnown headerLimits
+  layout-limits-are-tested = (
+    rw (header-named 8 (omega arith)),
+    rw (header-named 10 (omega arith), le-leb 0 (deadwood f s .count) (omega arith)),
+    rw (header-named 0 (omega arith), le-leb 0 (word s kindAt) (omega arith)),
+  )
+
+  -- of the courses, where refusal 3 is not given
+  module _ (passed : verdict (placeTests (f .header) (length s) (sections f s)) ≡ Passed) (i : ℕ) (l : i < courses f s .count) where
+    course-named : (w : ℕ) → 4 * w + 4 ≤ recordLong Courses
+        → let at = recordAt (courses f s) i + 4 * w in
+        let of = limitsAt courseLimits w in
+        withinNamed f s at ≡ within (of .low) (word s at) (of .high)
+    unfolding courseFault
+    course-named w inside =
+        let whole : 4 * w / 4 ≡ w = omega arith in
+        rw (record-number f s readable header passed (courses f s) (List·Memᴰ·head refl) i l w inside, whole)
+
+    pub course-limits-are-tested : let at = recordAt (courses f s) i in
+        courseTests s at ≡ map (λ k. test 5 (at + k) (withinNamed f s (at + k))) (firstIn ∷ secondIn ∷ lengthIn ∷ thicknessIn ∷ [])
+    unfolding courseTests
+    course-limits-are-tested = rw (course-named 0 (omega arith), course-named 1 (omega arith), course-named 2 (omega arith), course-named 3 (omega arith))

@@ -19,5 +19,6 @@ pub mod LimitLaws
 pub mod WallLaws
 pub mod NumberedLaws
 pub mod IgnoredLaws
+pub mod DimensionLaws
 pub mod FaultLaws
 pub mod ExampleLaws

@@ -57,14 +57,15 @@ pub record Inside (s : List ℕ) (x : Section) : Type 0 where
   pub long : recordLong (x .records) ≤ x .size
   pub inside : (i : ℕ) → i < x .count → recordAt x i + x .size ≤ length s
 
--- a section that is well placed has each of its records inside the file
-placed-inside : (header fileSize : ℕ) (x : Section) → placed header fileSize x ≡ true → (i : ℕ) → i < x .count → recordAt x i + x .size ≤ fileSize
+-- a section that is well placed starts behind the header and has each of its records inside the file
+pub placed-inside : (header fileSize : ℕ) (x : Section) → placed header fileSize x ≡ true → (i : ℕ) → i < x .count
+    → (header ≤ x .offset) × (recordAt x i + x .size ≤ fileSize)
 unfolding placed
 placed-inside header fileSize x h i l =
     let one-more : i + 1 ≤ x .count = omega arith in
     let some = ne-eqb (x .count) 0 (λ e. omega arith) in
     let halves = both-pass (leb header (x .offset)) (leb (endOf x) fileSize) (rw some at h) in
-    omega (arith, mul-le-mul-left (x .size) one-more, leb-true (endOf x) fileSize (halves .1))
+    (leb-true header (x .offset) (halves .0), omega (arith, mul-le-mul-left (x .size) one-more, leb-true (endOf x) fileSize (halves .1)))
 
 pub record Placed (f : Format) (s : List ℕ) : Type 0 where
   pub header : f .header ≤ length s
@@ -86,13 +87,13 @@ placed-file f s readable size passed =
         header = omega (arith, readable .header, file .0);
         file = file .1;
         long = readable .course;
-        inside = placed-inside (f .header) (length s) (courses f s) (pass .1 .1 .0);
+        inside = λ i l. placed-inside (f .header) (length s) (courses f s) (pass .1 .1 .0) i l .1;
       };
       deadwood-inside = record {
         header = omega (arith, readable .header, file .0);
         file = file .1;
         long = readable .deadwood;
-        inside = placed-inside (f .header) (length s) (deadwood f s) (pass .1 .1 .1 .1 .0);
+        inside = λ i l. placed-inside (f .header) (length s) (deadwood f s) (pass .1 .1 .1 .1 .0) i l .1;
       };
       someCourse = count .0;
       fewCourses = count .1;

@@ -9,7 +9,7 @@ use Rattle.survey.specs.Dimensions.{shellDiameter, d1, d2, diameterFits}
 use Rattle.survey.specs.Fault.{diameterFault}
 use Rattle.survey.specs.JudgedLaws.{told-outside, told-within}
 use Rattle.survey.specs.SurveyLaws.{file-sums-fit}
-use Rattle.survey.specs.FaultLaws.{diameters-small}
+use Rattle.survey.specs.DimensionLaws.{diameters-small}
 use borrow.Author.Needs.{needs}
 use Rattle.survey.proofs.fault.diameter_fault.Statement.{statement}
 use Rattle.survey.proofs.fault.diameter_fault.Tie as tie

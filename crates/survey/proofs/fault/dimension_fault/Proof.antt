@@ -3,7 +3,7 @@ use mathlib.Core.Bool.{true}
 use mathlib.Core.Path.{_≡_, sym, _∙_}
 use borrow.Author.Tests.{eq-eqb, ne-eqb, not-true, not-false}
 use Rattle.survey.specs.Fault.{numbersPass, dimensionFault}
-use Rattle.survey.specs.FaultLaws.{layout-passes}
+use Rattle.survey.specs.DimensionLaws.{numbers-pass}
 use borrow.Author.Needs.{needs}
 use Rattle.survey.proofs.fault.dimension_fault.Statement.{statement}
 use Rattle.survey.proofs.fault.dimension_fault.Tie as tie
@@ -19,7 +19,7 @@ returns c = rw (sym (c .before .before .numbers-pass .ensures) ∙ not-true _ (c
 lengths-fault-requires : tie.Need-lengths-fault-requires
 lengths-fault-requires c κs =
     let start = c .before .before .before .before in
-    (start .pre .0, layout-passes (start .args .f) (start .args .s .now) (passes (c .before)) (start .pre .0))
+    (start .pre .0, numbers-pass (start .args .f) (start .args .s .now) (passes (c .before)) (start .pre .0))
 
 returns-2 : tie.Need-returns-2
 unfolding dimensionFault
@@ -28,7 +28,7 @@ returns-2 c = rw (passes (c .before .before), eq-eqb _ _ (c .before .if2 .taken)
 diameter-fault-requires : tie.Need-diameter-fault-requires
 diameter-fault-requires c κs =
     let start = c .before .before .before .before in
-    (start .pre .0, layout-passes (start .args .f) (start .args .s .now) (passes (c .before)) (start .pre .0))
+    (start .pre .0, numbers-pass (start .args .f) (start .args .s .now) (passes (c .before)) (start .pre .0))
 
 returns-3 : tie.Need-returns-3
 unfolding dimensionFault

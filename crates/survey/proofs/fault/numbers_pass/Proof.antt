@@ -8,7 +8,7 @@ use Rattle.survey.specs.Limits.{largestFile}
 use Rattle.survey.specs.SectionLaws.{placed-file}
 use Rattle.survey.specs.Tests.{layoutTests}
 use Rattle.survey.specs.Fault.{passed, numbersPass}
-use Rattle.survey.specs.FaultLaws.{passed-verdict}
+use Rattle.survey.specs.DimensionLaws.{passed-verdict}
 use borrow.Author.Needs.{needs}
 use Rattle.survey.proofs.fault.numbers_pass.Statement.{statement}
 use Rattle.survey.proofs.fault.numbers_pass.Tie as tie
