@@ -22,7 +22,7 @@ use Rattle.survey.specs.Survey.{noItems, decodedBy, decoded}
 abbrev bytes : ℕ → List ℕ
 bytes n = n % 256 ∷ n / 256 % 256 ∷ n / 65536 % 256 ∷ n / 16777216 % 256 ∷ []
 
-abbrev concat : List ℕ → List ℕ
+abbrev pub concat : List ℕ → List ℕ
 concat [] = []
 concat (n ∷ ns) = bytes n ++ concat ns
 

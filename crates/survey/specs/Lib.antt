@@ -22,3 +22,4 @@ pub mod IgnoredLaws
 pub mod DimensionLaws
 pub mod FaultLaws
 pub mod ExampleLaws
+pub mod FaultExampleLaws

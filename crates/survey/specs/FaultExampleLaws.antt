@@ -1,0 +1,55 @@
+-- Document 01's example survey with two deadwood items, a word of it changed at a time: the refusal that each gets, and what that is
+-- about, which is a computation. Assumes nothing.
+use Prim.Native.Nat.{ℕ}
+use mathlib.Core.Path.{_≡_, refl}
+use mathlib.Core.List.{List, [], _∷_}
+use lib.IntN.{pos, negℤ}
+use Rattle.laws.specs.Fill.{rowsOf}
+use Rattle.laws.specs.Nearest.{nearest}
+use Rattle.refusal.specs.declared.Verdict.the-variants.{Refused}
+use Rattle.refusal.specs.Test.{refusal, items}
+use Rattle.heads.specs.Kind.{kindKnown, kindOf}
+use Rattle.heads.specs.Length.{lengthFits}
+use Rattle.survey.specs.declared.fault.Fault.{Fault}
+use Rattle.survey.specs.Word.{word, signedWord}
+use Rattle.survey.specs.Section.{countFits, placed, apart}
+use Rattle.survey.specs.Dimensions.{sumOf, sumsOver, outerDiameter, wall, shellDiameter, headDiameter, diameterFits}
+use Rattle.survey.specs.Tests.{layoutTests, headerTests, courseTests, itemTests, dimensionTests, fileTests}
+use Rattle.survey.specs.Survey.{decoded}
+use Rattle.survey.specs.Fault.{faultWith, unknown, sizeFault, headerLimits, headerFault, countFault, placeFault, courseFault, volumeFault, itemFault}
+use Rattle.survey.specs.Fault.{fieldFault, numberFault, numbersPass, lengthsFault, diameterFault, dimensionFault, headedFault, faultAs, faultOf}
+use Rattle.survey.specs.ExampleLaws.{concat}
+
+-- DH, the count of the courses, the byte offset of the deadwood, the course's first circumference and its length, and item 2's high height
+-- and volume
+abbrev file : (dh count offset circumference length high volume : ℕ) → List ℕ
+file dh count offset circumference length high volume =
+    concat
+    (0 ∷ dh ∷ 100000 ∷ 160221 ∷ 160221 ∷ 0 ∷ 0 ∷ 10000 ∷ count ∷ 48 ∷ 2 ∷ offset
+    ∷ circumference ∷ 160221 ∷ length ∷ 500
+    ∷ 100 ∷ 200 ∷ 5
+    ∷ 300 ∷ high ∷ volume ∷ [])
+
+-- a file gets a refusal, and that is about this
+abbrev About : List ℕ → (number place : ℕ) → Fault → Type 0
+About s number place fault = (decoded s .verdict ≡ Refused (refusal number place)) × (faultOf s number place ≡ fault)
+
+-- DH, a count, the deadwood from the courses' last byte on, the sum of the lengths, D1, item 2's high height above DH and its volume
+pub changed-words : About (file 49999 1 64 160221 100000 400 5) 5 4 (faultWith 1 0 49999 50000 500000)
+    × About (file 50000 41 64 160221 100000 400 5) 2 0 (faultWith 8 0 41 1 40)
+    × About (file 50000 1 63 160221 100000 400 5) 3 0 (faultWith 21 2 63 0 0)
+    × About (file 50000 1 64 160221 99999 400 5) 6 0 (faultWith 22 0 99999 0 100000)
+    × About (file 50000 1 64 300000 100000 400 5) 7 0 (faultWith 23 50000 72246 50000 500000)
+    × About (file 50000 1 64 160221 100000 50001 5) 5 80 (faultWith 17 2 50001 0 50000)
+    × About (file 50000 1 64 160221 100000 400 4284967295) 5 84 (record { sentence = 18; item = 2; value = negℤ (pos 10000001); low = negℤ (pos 10000000); high = pos 10000000 })
+unfolding rowsOf nearest items kindKnown kindOf lengthFits word signedWord countFits placed apart sumOf sumsOver outerDiameter wall shellDiameter headDiameter diameterFits layoutTests headerTests courseTests itemTests dimensionTests fileTests decoded headerLimits headerFault countFault placeFault courseFault volumeFault itemFault fieldFault numberFault numbersPass lengthsFault diameterFault dimensionFault headedFault faultAs faultOf
+changed-words = ((refl, refl), (refl, refl), (refl, refl), (refl, refl), (refl, refl), (refl, refl), (refl, refl))
+
+-- a file without bytes; and a refusal of no survey, whatever the file
+pub no-bytes : About [] 1 0 (faultWith 19 0 0 48 65536)
+unfolding fileTests decoded sizeFault faultAs faultOf
+no-bytes = (refl, refl)
+
+pub not-a-refusal : faultOf (file 50000 1 64 160221 100000 400 5) 11 7 ≡ unknown 11 7
+unfolding headedFault faultAs faultOf
+not-a-refusal = refl
