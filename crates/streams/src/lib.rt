@@ -3,9 +3,12 @@
 mod again;
 mod pause;
 mod read;
+mod told;
 mod write;
 
-pub use read::read_whole;
+pub use told::read_input;
+pub use told::read_named;
+pub use told::write_output;
 pub use write::write_whole;
 
 // What it came to: how many bytes were moved, and whether that is all there was to move. Where it is not, the last call failed, and errno

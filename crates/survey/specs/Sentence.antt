@@ -43,6 +43,13 @@ ofFallingRow = 26
 abbrev pub ofRowBelowZero : ℕ
 ofRowBelowZero = 27
 
--- 28 and 29 are the lookups'; and last a refusal that is not a survey's
+-- what a lookup is asked for: a dip height above the tank, a volume above the last row
+abbrev pub ofHeight : ℕ
+ofHeight = 28
+
+abbrev pub ofVolume : ℕ
+ofVolume = 29
+
+-- and last a refusal that is not a survey's
 abbrev pub ofUnknown : ℕ
 ofUnknown = 30

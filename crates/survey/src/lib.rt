@@ -10,5 +10,5 @@ mod layout;
 mod limits;
 mod numbers;
 mod section;
-mod sentence;
+pub mod sentence;
 mod word;

@@ -29,5 +29,10 @@ pub const OF_FALLING_ROW: u32 = 26;
 
 pub const OF_ROW_BELOW_ZERO: u32 = 27;
 
-// 28 and 29 are the lookups'; and last a refusal that is not a survey's.
+// What a lookup is asked for: a dip height above the tank, a volume above the last row.
+pub const OF_HEIGHT: u32 = 28;
+
+pub const OF_VOLUME: u32 = 29;
+
+// And last a refusal that is not a survey's.
 pub const OF_UNKNOWN: u32 = 30;

@@ -1,51 +1,63 @@
-// tanktable: a survey on standard input, its capacity table on standard output, or the line of its refusal.
-ghost use mathlib.Core.Path.{_≡_};
-ghost use Prim.Native.Nat.{_≤_};
-ghost use lib.ListN.{length};
-ghost use Rattle.schedule.specs.Rows.{rowCount, smallestStep, mostRows};
-ghost use Rattle.text.specs.LineText.{textOf};
-use libc::STDIN_FILENO;
+// tanktable: the capacity table of a survey, or the line of its refusal; and beside a refusal, on standard error, what it means in words.
+use libc::STDERR_FILENO;
 use libc::STDOUT_FILENO;
-use refusal::Verdict;
-use schedule::row_height;
+use report::table::ERR_SIZE;
+use report::table::OUT_SIZE;
+use report::table::table_said;
+use streams::read_input;
+use streams::read_named;
+use streams::write_output;
+use streams::write_whole;
 use survey::decode::LARGEST_FILE;
-use survey_lookup::table_of;
-use text::line::Line;
-use text::line::refused_line;
-use text::line::row_line;
-use text::line::rows_line;
 
-fn write_line(line: Line)
-    requires { ⌜ (line .len ≡ length (textOf line)) × (line .len ≤ length (line .bytes)) ⌝ }
-{
-    let n = line.len;
-    let bytes = line.bytes;
-    io::write_all(STDOUT_FILENO, &bytes[..n]);
+fn say_use(fd: i32) {
+    write_whole(
+        fd,
+        b"use: tanktable [-f FILE]\n\
+        Prints the capacity table of a survey, which is read from FILE or from standard input: dip heights in mm, and litres.\n",
+    );
 }
 
-// Each row's height and volume, a line each.
-fn write_rows(dh: u32, step: u32, rows: usize, table: &[u32])
-    requires { ⌜ (smallestStep ≤ step) × (rows ≡ rowCount dh step) × (rows ≤ mostRows) × (rows ≤ length (now table)) ⌝ }
-{
-    let mut i: usize = 0;
-    while i < rows {
-        write_line(row_line(row_height(dh, step, i).units(), table[i]));
-        i += 1;
-    }
+// Whether argument i is this word. One that has no room here is not.
+fn is_word(i: usize, word: &[u8]) -> bool {
+    let mut argument = [0u8; 16];
+    let n = os::arg(i, &mut argument);
+    check::same(&argument[..n], word)
+}
+
+fn print_table(survey: &[u8]) {
+    let mut out = [0u8; OUT_SIZE];
+    let mut err = [0u8; ERR_SIZE];
+    let said = table_said(survey, &mut out, &mut err);
+    let printed = said.out;
+    let told = said.err;
+    write_output(&out[..printed]);
+    write_whole(STDERR_FILENO, &err[..told]);
 }
 
 fn main() {
     // one byte more than a survey may have tells that it is too long
     let mut file = [0u8; LARGEST_FILE + 1];
-    let n = io::read_full(STDIN_FILENO, &mut file);
-    let t = table_of(&file[..n]);
-    let verdict = t.verdict;
-    let table = t.table;
-    match verdict {
-        Verdict::Refused(r) => write_line(refused_line(r.number, r.place)),
-        Verdict::Passed => {
-            write_line(rows_line(t.rows as u32));
-            write_rows(t.dh, t.step, t.rows, &table);
+    let words = os::arg_count();
+    if words <= 1 {
+        let got = read_input(&mut file);
+        let n = got.count;
+        if got.whole {
+            print_table(&file[..n]);
         }
+        return;
     }
+    if words == 2 && is_word(1, b"--help") {
+        say_use(STDOUT_FILENO);
+        return;
+    }
+    if words == 3 && is_word(1, b"-f") {
+        let got = read_named(2, &mut file);
+        let n = got.count;
+        if got.whole {
+            print_table(&file[..n]);
+        }
+        return;
+    }
+    say_use(STDERR_FILENO);
 }

@@ -1,10 +1,14 @@
 -- Worked examples, each a computation: numbers and lines as they are printed, texts that are figures, and texts that are none.
 -- Assumes nothing.
 use mathlib.Core.Path.{_≡_, refl}
+use mathlib.Core.List.{[]}
+use lib.IntN.{pos, negsuc}
 use Rattle.text.specs.declared.read.Figure.the-variants.{Hundredths, NotAFigure}
+use Rattle.text.specs.declared.sentence.Blanks.{Blanks}
 use Rattle.text.specs.Ascii.{ascii}
-use Rattle.text.specs.Digits.{digits, hundredths}
-use Rattle.text.specs.Lines.{rowsLine, rowLine, refusedLine, figureLine}
+use Rattle.text.specs.Digits.{digits, hundredths, inThrees, grouped}
+use Rattle.text.specs.Lines.{rowsLine, rowLine, refusedLine, figureLine, signedLine}
+use Rattle.text.specs.Sentence.{behindLines, firstLine, filledIn, filled, sentence}
 use Rattle.text.specs.Figures.{figureFrom, figureOf}
 
 pub printed :
@@ -40,3 +44,20 @@ pub no-figures :
     × (figureOf (ascii "123456789") ≡ NotAFigure)
 unfolding figureFrom figureOf
 no-figures = (refl, refl, refl, refl, refl, refl, refl, refl, refl)
+
+-- digits in threes, differences and a sentence
+
+abbrev someBlanks : Blanks
+someBlanks = record { item = 2; value = pos 270000; low = negsuc 4; high = pos 260000 }
+
+pub printed-for-people :
+    (grouped 270000 ≡ ascii "2,700.00")
+    × (grouped 99999 ≡ ascii "999.99")
+    × (grouped 123456789005 ≡ ascii "1,234,567,890.05")
+    × (signedLine (pos 1398) ≡ ascii "+13.98\n")
+    × (signedLine (negsuc 4) ≡ ascii "-0.05\n")
+    × (signedLine (pos 0) ≡ ascii "0.00\n")
+    × (sentence someBlanks 1 (ascii "another\nitem #: $ (~ mm), < to >\n") ≡ ascii "item 2: 270000 (2,700.00 mm), -5 to 260000")
+    × (sentence someBlanks 2 (ascii "another\nitem #: $ (~ mm), < to >\n") ≡ [])
+unfolding digits hundredths inThrees grouped signedLine behindLines firstLine filledIn filled
+printed-for-people = (refl, refl, refl, refl, refl, refl, refl, refl)

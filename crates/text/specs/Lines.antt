@@ -1,8 +1,9 @@
 -- The lines that the programs print, each with its line end. Assumes nothing.
 use Prim.Native.Nat.{ℕ}
 use mathlib.Core.List.{List, _++_}
+use lib.IntN.{ℤ, natAbs}
 use Rattle.text.specs.Ascii.{ascii}
-use Rattle.text.specs.Digits.{digits, hundredths}
+use Rattle.text.specs.Digits.{digits, hundredths, signOf}
 
 unfoldable pub rowsLine : ℕ → List ℕ
 rowsLine n = ascii "rows " ++ digits n ++ ascii "\n"
@@ -15,3 +16,7 @@ refusedLine number place = ascii "refused " ++ digits number ++ ascii " " ++ dig
 
 unfoldable pub figureLine : ℕ → List ℕ
 figureLine n = hundredths n ++ ascii "\n"
+
+-- a difference, with its sign
+unfoldable pub signedLine : ℤ → List ℕ
+signedLine z = signOf z ++ hundredths (natAbs z) ++ ascii "\n"

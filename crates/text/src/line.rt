@@ -1,103 +1,53 @@
-// The lines that the programs print. A line is put together in an array of its own, piece by piece behind what stands there.
-ghost use Prim.Native.Nat.{_%_};
-ghost use mathlib.Core.List.{[], _∷_};
-ghost use lib.ListN.{length};
-ghost use Rattle.text.specs.Digits.{digitOf, digits, hundredths};
-ghost use Rattle.text.specs.LineText.{lineSize, Holds};
-ghost use Rattle.text.specs.LineTextLaws.{Room, Added};
-ghost use Rattle.text.specs.Lines.{rowsLine, rowLine, refusedLine, figureLine};
+// The lines that the programs print, each with its line end, put into lent memory.
+ghost use lib.IntN.{natAbs};
+ghost use Rattle.text.specs.Lines.{rowsLine, rowLine, refusedLine, figureLine, signedLine};
+ghost use Rattle.text.specs.Put.{Put};
+use crate::put::put_byte;
+use crate::put::put_bytes;
+use crate::put::put_digits;
+use crate::put::put_hundredths;
+use crate::put::put_sign;
+use crate::put::size;
 
-// How many bytes a line has place for.
-pub const LINE_SIZE: usize = 64;
-
-// The text is the first `len` of the bytes.
-pub struct Line {
-    pub bytes: [u8; LINE_SIZE],
-    pub len: usize,
+pub fn rows_line(out: &mut [u8], at: usize, n: u32) -> usize
+    ensures { λ r. ⌜ Put at (rowsLine n) (now (out .entry)) (now (out .exit)) r ⌝ }
+{
+    let word = put_bytes(out, at, b"rows ");
+    let count = put_digits(out, word, n as u64);
+    put_byte(out, count, b'\n')
 }
 
-fn empty() -> Line
-    ensures { λ r. ⌜ Room r lineSize ⌝ }
+pub fn row_line(out: &mut [u8], at: usize, h: u32, v: u32) -> usize
+    ensures { λ r. ⌜ Put at (rowLine h v) (now (out .entry)) (now (out .exit)) r ⌝ }
 {
-    Line {
-        bytes: [0u8; LINE_SIZE],
-        len: 0,
-    }
+    let height = put_hundredths(out, at, h as u64);
+    let space = put_byte(out, height, b' ');
+    let volume = put_hundredths(out, space, v as u64);
+    put_byte(out, volume, b'\n')
 }
 
-fn with_byte(line: Line, b: u8) -> Line
-    requires { ⌜ Room line 1 ⌝ }
-    ensures { λ r. ⌜ Added line (b ∷ []) r ⌝ }
+pub fn refused_line(out: &mut [u8], at: usize, number: u32, place: u32) -> usize
+    ensures { λ r. ⌜ Put at (refusedLine number place) (now (out .entry)) (now (out .exit)) r ⌝ }
 {
-    let at = line.len;
-    let mut bytes = line.bytes;
-    bytes[at] = b;
-    Line { bytes, len: at + 1 }
+    let word = put_bytes(out, at, b"refused ");
+    let numbered = put_digits(out, word, number as u64);
+    let space = put_byte(out, numbered, b' ');
+    let placed = put_digits(out, space, place as u64);
+    put_byte(out, placed, b'\n')
 }
 
-fn with_bytes(line: Line, s: &[u8]) -> Line
-    requires { ⌜ Room line (length (now s)) ⌝ }
-    ensures { λ r. ⌜ Added line (now (s .entry)) r ⌝ }
+pub fn figure_line(out: &mut [u8], at: usize, n: u32) -> usize
+    ensures { λ r. ⌜ Put at (figureLine n) (now (out .entry)) (now (out .exit)) r ⌝ }
 {
-    let mut bytes = line.bytes;
-    let mut len = line.len;
-    let mut i: usize = 0;
-    while i < s.len() {
-        bytes[len] = s[i];
-        len += 1;
-        i += 1;
-    }
-    Line { bytes, len }
+    let figure = put_hundredths(out, at, n as u64);
+    put_byte(out, figure, b'\n')
 }
 
-// The last digit of n.
-fn with_digit(line: Line, n: u32) -> Line
-    requires { ⌜ Room line 1 ⌝ }
-    ensures { λ r. ⌜ Added line (digitOf (n % 10) ∷ []) r ⌝ }
+// A difference, with its sign.
+pub fn signed_line(out: &mut [u8], at: usize, z: i64) -> usize
+    ensures { λ r. ⌜ Put at (signedLine z) (now (out .entry)) (now (out .exit)) r ⌝ }
 {
-    with_byte(line, b'0' + (n % 10) as u8)
-}
-
-fn with_digits(line: Line, n: u32) -> Line
-    requires { ⌜ Room line (length (digits n)) ⌝ }
-    ensures { λ r. ⌜ Added line (digits n) r ⌝ }
-{
-    if n < 10 {
-        return with_digit(line, n);
-    }
-    with_digit(with_digits(line, n / 10), n)
-}
-
-fn with_hundredths(line: Line, n: u32) -> Line
-    requires { ⌜ Room line (length (hundredths n)) ⌝ }
-    ensures { λ r. ⌜ Added line (hundredths n) r ⌝ }
-{
-    let pointed = with_byte(with_digits(line, n / 100), b'.');
-    with_digit(with_digit(pointed, n / 10), n)
-}
-
-pub fn rows_line(n: u32) -> Line
-    ensures { λ r. ⌜ Holds r (rowsLine n) ⌝ }
-{
-    with_byte(with_digits(with_bytes(empty(), b"rows "), n), b'\n')
-}
-
-pub fn row_line(h: u32, v: u32) -> Line
-    ensures { λ r. ⌜ Holds r (rowLine h v) ⌝ }
-{
-    let height = with_byte(with_hundredths(empty(), h), b' ');
-    with_byte(with_hundredths(height, v), b'\n')
-}
-
-pub fn refused_line(number: u32, place: u32) -> Line
-    ensures { λ r. ⌜ Holds r (refusedLine number place) ⌝ }
-{
-    let numbered = with_byte(with_digits(with_bytes(empty(), b"refused "), number), b' ');
-    with_byte(with_digits(numbered, place), b'\n')
-}
-
-pub fn figure_line(n: u32) -> Line
-    ensures { λ r. ⌜ Holds r (figureLine n) ⌝ }
-{
-    with_byte(with_hundredths(empty(), n), b'\n')
+    let sign = put_sign(out, at, z);
+    let figure = put_hundredths(out, sign, size(z));
+    put_byte(out, figure, b'\n')
 }

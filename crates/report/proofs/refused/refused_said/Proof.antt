@@ -1,0 +1,13 @@
+-- `report::refused::refused_said` meets its contract: the line, and then the words. Assumes nothing.
+use borrow.Author.Needs.{needs}
+use Rattle.text.specs.PutLaws.{says}
+use Rattle.report.proofs.refused.refused_said.Statement.{statement}
+use Rattle.report.proofs.refused.refused_said.Tie as tie
+
+returns : tie.Need-returns
+returns c = (says (c .before .before .before .before .before .before .refused-line .ensures), says (c .before .before .put-fault .ensures))
+
+pub refused-said-spec : {M : Type 1} → statement M
+refused-said-spec =
+    tie.close
+    (tie.spec (λ c κs. search needs) (λ c κs. search needs) (λ c. search needs) (λ c. search needs) returns)

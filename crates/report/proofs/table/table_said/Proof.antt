@@ -1,0 +1,36 @@
+-- `report::table::table_said` meets its contract: the table is the survey file's own, and each case of its verdict says what its text is.
+-- Assumes nothing.
+use native.Mathlib.Omega.{arith}
+use borrow.Author.Needs.{needs}
+use Rattle.survey_lookup.specs.TabledLaws.{ready-file}
+use Rattle.text.specs.PutLaws.{put-nothing, put-both, says}
+use Rattle.report.specs.Report.{tableText}
+use Rattle.report.proofs.table.table_said.Statement.{statement}
+use Rattle.report.proofs.table.table_said.Tie as tie
+
+cast-rows-line : tie.Need-cast-rows-line
+cast-rows-line c =
+    let t = ready-file _ (c .before .before .before .before .before .table-of .ensures) (c .before .before .enum-told .given .1) in
+    omega (arith, t .few)
+
+put-rows-requires : tie.Need-put-rows-requires
+put-rows-requires c κs =
+    let t = ready-file _ (c .before .before .before .before .before .before .before .before .before .before .table-of .ensures) (c .before .before .before .before .before .before .before .enum-told .given .1) in
+    (t .step-low, t .rows-are, t .few, t .inside)
+
+returns : tie.Need-returns
+unfolding tableText
+returns c =
+    let said = rw (c .before .before .before .before .before .before .before .fault-of .ensures) at (c .before .before .before .before .refused-said .ensures) in
+    rw (← c .before .before .before .before .before .before .before .before .before .before .before .before .table-of .ensures, c .before .before .before .before .before .before .before .before .before .verdict .given .1) said
+
+returns-2 : tie.Need-returns-2
+unfolding tableText
+returns-2 c =
+    rw (← c .before .before .before .before .before .before .before .before .before .before .before .before .before .table-of .ensures, c .before .before .before .before .before .before .before .before .before .before .enum-told .given .1) (says (put-both (c .before .before .before .before .before .before .before .rows-line .ensures) (c .before .before .put-rows .ensures)), says (put-nothing 0 _))
+
+pub table-said-spec : {M : Type 1} → statement M
+table-said-spec =
+    tie.close
+    (tie.spec (λ c κs. search needs) (λ c. search needs) (λ c κs. search needs) (λ c κs. search needs) (λ c. search needs) cast-rows-line
+    (λ c κs. search needs) (λ c. search needs) put-rows-requires (λ c. search needs) (λ c. search needs) returns (λ c. search needs) returns-2)

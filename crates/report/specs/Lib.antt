@@ -1,0 +1,2 @@
+-- What the programs say on standard output and on standard error.
+pub mod Report

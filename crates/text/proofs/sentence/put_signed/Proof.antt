@@ -1,0 +1,17 @@
+-- `text::sentence::put_signed` meets its contract: its pieces are put one after another. Assumes nothing.
+use borrow.Author.Needs.{needs}
+use mir.Syntax.{w64}
+use mir.ValLaws.{toZ-ofZ}
+use Rattle.text.specs.PutLaws.{put-both}
+use Rattle.text.proofs.sentence.put_signed.Statement.{statement}
+use Rattle.text.proofs.sentence.put_signed.Tie as tie
+
+returns : tie.Need-returns
+returns c =
+    let plain = toZ-ofZ w64 (c .before .before .before .before .before .before .before .before .before .before .args .z) (c .before .before .before .before .before .before .before .before .before .before .fits .z) in
+    put-both (rw plain at (c .before .before .before .before .before .before .before .put-minus .ensures)) (rw (c .before .before .before .size .ensures, plain) at (c .before .before .put-digits .ensures))
+
+pub put-signed-spec : {M : Type 1} → statement M
+put-signed-spec =
+    tie.close
+    (tie.spec (λ c κs. search needs) (λ c κs. search needs) (λ c κs. search needs) (λ c. search needs) returns)

@@ -1,0 +1,2 @@
+-- What a refusal is about, in words.
+pub mod Sentences

@@ -1,0 +1,76 @@
+// What a refusal is about, in words: one line for standard error, or for whoever calls the library.
+ghost use mathlib.Core.Path.{_≡_};
+ghost use Rattle.text.specs.Put.{Put};
+ghost use Rattle.wording.specs.Sentences.{tooHigh, tooMuch, faultLine};
+use survey::fault::Fault;
+use survey::fault::fault_with;
+use survey::sentence::OF_HEIGHT;
+use survey::sentence::OF_VOLUME;
+use text::put::put_byte;
+use text::sentence::Blanks;
+use text::sentence::put_sentence;
+
+pub fn put_fault(out: &mut [u8], at: usize, fault: Fault) -> usize
+    ensures { λ r. ⌜ Put at (faultLine fault) (now (out .entry)) (now (out .exit)) r ⌝ }
+{
+    let blanks = Blanks {
+        item: fault.item,
+        value: fault.value,
+        low: fault.low,
+        high: fault.high,
+    };
+    let said = put_sentence(
+        out,
+        at,
+        blanks,
+        fault.sentence as usize,
+        b"\
+        head kind $: must be 0 (flat) or 1 (half-ellipsoid)\n\
+        dip diameter DH $ (~ mm): must be < to >\n\
+        shell length L1 $ (~ mm): must be < to >\n\
+        circumference left $ (~ mm): must be < to >\n\
+        circumference right $ (~ mm): must be < to >\n\
+        flange length L2 $ (~ mm): must be < to >\n\
+        head length L3 $ (~ mm): must be < to > for this kind of head\n\
+        step $ (~ mm): must be < to >\n\
+        course count $: must be < to >\n\
+        byte offset of the courses $: its # records must start at byte < or later and end inside the file of > bytes\n\
+        deadwood count $: must be < to >\n\
+        byte offset of the deadwood $: its # records must start at byte < or later and end inside the file of > bytes\n\
+        course #, first circumference $ (~ mm): must be < to >\n\
+        course #, second circumference $ (~ mm): must be < to >\n\
+        course #, length $ (~ mm): must be < to >\n\
+        course #, thickness $ (~ mm): must be < to >\n\
+        deadwood item #, low height $ (~ mm): must be below its high height\n\
+        deadwood item #, high height $ (~ mm): must be above its low height and at most DH >\n\
+        deadwood item #, volume $ (~ L): must be < to >\n\
+        file of $ bytes: must have < to >\n\
+        file of more than > bytes: must have < to >\n\
+        byte offset of the deadwood $: its # records must not overlap the courses\n\
+        sum of the course lengths $ (~ mm): must be the shell length L1, >\n\
+        shell diameter D1 $ (~ mm): must be < to > and at most 10000 from DH #\n\
+        head diameter D2 $ (~ mm): must be < to > and at most 10000 from DH #\n\
+        lent table: must have a cell for each row\n\
+        row # at dip height $ (~ mm): must not be below the row before; the deadwood is larger than the room there\n\
+        row # at dip height $ (~ mm): must not be below zero\n\
+        dip height $ (~ mm): must be at most DH >\n\
+        volume $ (~ L): must be at most the last row, >\n\
+        refusal # at place $: not one of this survey's\n\
+        ",
+    );
+    put_byte(out, said, b'\n')
+}
+
+// A dip height above the tank.
+pub fn too_high(asked: u32, dh: u32) -> Fault
+    ensures { λ r. ⌜ r ≡ tooHigh asked dh ⌝ }
+{
+    fault_with(OF_HEIGHT, 0, asked as u64, 0, dh)
+}
+
+// A volume above the last row.
+pub fn too_much(asked: u32, last: u32) -> Fault
+    ensures { λ r. ⌜ r ≡ tooMuch asked last ⌝ }
+{
+    fault_with(OF_VOLUME, 0, asked as u64, 0, last)
+}
