@@ -40,7 +40,7 @@ faultWith sentence item value low high = record { sentence = sentence; item = it
 abbrev pub unknown : (number place : ℕ) → Fault
 unknown number place = faultWith ofUnknown number place 0 0
 
--- refusal 1: a size past the largest is not named, which a number of 64 bits need not hold
+-- refusal 1: a size past the largest is not named, since a number of 64 bits with a sign need not hold it
 unfoldable pub sizeFault : Format → List ℕ → Fault
 sizeFault f s =
     pick (leb (length s) largestFile)

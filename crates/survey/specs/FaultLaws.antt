@@ -154,7 +154,7 @@ module _ (f : Format) (s : List ℕ) (readable : Readable f) (header : f .header
 abbrev pub withinNamed : Format → List ℕ → ℕ → Bool
 withinNamed f s at = let r = faultAs f s 5 at in within (natAbs (r .low)) (word s at) (natAbs (r .high))
 
-length-within : (kind : HeadKind) (l : ℕ) → lengthFits kind l ≡ within (lengthLimits kind .low) l (lengthLimits kind .high)
+pub length-within : (kind : HeadKind) (l : ℕ) → lengthFits kind l ≡ within (lengthLimits kind .low) l (lengthLimits kind .high)
 unfolding lengthFits
 length-within Flat l =
     by-order l 0

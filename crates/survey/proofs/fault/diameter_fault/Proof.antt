@@ -1,12 +1,16 @@
 -- `survey::fault::diameter_fault` meets its contract: D1, D2 and the test of D1 are the definition's. Assumes nothing.
-use mathlib.Core.Path.{_≡_, _∙_, ap}
+use Prim.Native.Nat.{ℕ, _^_, _<_}
+use mathlib.Core.Path.{_≡_, _∙_, ap, ap₂}
+use native.Mathlib.Omega.{arith}
 use Rattle.laws.specs.Order.{pick}
 use Rattle.measure.specs.declared.diameter.Measured.the-variants.{Within, Outside}
+use Rattle.measure.specs.Diameter.{smallest, largest}
 use Rattle.measure.specs.Quantity.{diameter}
 use Rattle.survey.specs.Word.{word}
 use Rattle.survey.specs.Layout.{dhAt}
 use Rattle.survey.specs.Dimensions.{shellDiameter, d1, d2, diameterFits}
-use Rattle.survey.specs.Fault.{diameterFault}
+use Rattle.survey.specs.Sentence.{ofShellDiameter, ofHeadDiameter}
+use Rattle.survey.specs.Fault.{faultWith, diameterFault}
 use Rattle.survey.specs.JudgedLaws.{told-outside, told-within}
 use Rattle.survey.specs.SurveyLaws.{file-sums-fit}
 use Rattle.survey.specs.DimensionLaws.{diameters-small}
@@ -39,15 +43,15 @@ head-diameter-requires c κs =
     let sums = file-sums-fit (start .args .f) (start .args .s .now) (start .pre .1) in
     rw (c .before .before .before .before .file-sums .ensures) (sums .0, sums .2)
 
-of-diameter-requires : tie.Need-of-diameter-requires
-of-diameter-requires c κs =
-    let start = c .before .before .before .before .before .before .before .before .before .before in
-    rw (shell (c .before .before .before .before .before .before)) (diameters-small (start .args .f) (start .args .s .now) (start .pre .1) .0)
+-- both are small
+small : (c : tie.After-fitting) → (c .before .before .before .before .shell-diameter .result < 2 ^ 63) × (c .before .head-diameter .result < 2 ^ 63)
+small c =
+    let start = c .before .before .before .before .before .before .before .before in
+    rw (shell (c .before .before .before .before), heads (c .before)) (diameters-small (start .args .f) (start .args .s .now) (start .pre .1))
 
-of-diameter-requires-2 : tie.Need-of-diameter-requires-2
-of-diameter-requires-2 c κs =
-    let start = c .before .before .before .before .before .before .before .before .before .before in
-    rw (heads (c .before .before .before)) (diameters-small (start .args .f) (start .args .s .now) (start .pre .1) .1)
+-- a sentence of DH and a diameter
+about : (sentence : ℕ) {dh dh′ d d′ : ℕ} → dh ≡ dh′ → d ≡ d′ → faultWith sentence dh d smallest largest ≡ faultWith sentence dh′ d′ smallest largest
+about sentence p q = ap₂ (λ (dh d : ℕ). faultWith sentence dh d smallest largest) p q
 
 returns : tie.Need-returns
 unfolding diameterFault
@@ -55,7 +59,7 @@ returns c =
     let a = c .before .before .before .before .before .before .before .before .before .before .before .args in
     let d = d1 (a .f) (a .s .now) in
     rw (told-outside (diameterFits d (word (a .s .now) dhAt)) (diameter d) (fits (c .before .before .before)) (c .before .enum-told .given .1))
-    (rw (shell (c .before .before .before .before .before .before .before), c .before .before .before .before .before .before .before .before .word .ensures) at (c .of-diameter .ensures))
+    (c .of-diameter .ensures ∙ about ofShellDiameter (c .before .before .before .before .before .before .before .before .word .ensures) (shell (c .before .before .before .before .before .before .before)))
 
 returns-2 : tie.Need-returns-2
 unfolding diameterFault
@@ -63,11 +67,11 @@ returns-2 c =
     let a = c .before .before .before .before .before .before .before .before .before .before .before .args in
     let d = d1 (a .f) (a .s .now) in
     rw (told-within (diameterFits d (word (a .s .now) dhAt)) (diameter d) (fits (c .before .before .before)) (c .before .enum-told2 .given .1) .0)
-    (rw (heads (c .before .before .before .before), c .before .before .before .before .before .before .before .before .word .ensures) at (c .of-diameter2 .ensures))
+    (c .of-diameter2 .ensures ∙ about ofHeadDiameter (c .before .before .before .before .before .before .before .before .word .ensures) (heads (c .before .before .before .before)))
 
 pub diameter-fault-spec : {M : Type 1} → statement M
 diameter-fault-spec =
     tie.close
     (tie.spec (λ c κs. search needs) (λ c κs. search needs) shell-diameter-requires (λ c κs. search needs)
-    (λ c κs. search needs) head-diameter-requires (λ c κs. search needs) (λ c. search needs) of-diameter-requires
-    (λ c. search needs) of-diameter-requires-2 returns returns-2)
+    (λ c κs. search needs) head-diameter-requires (λ c κs. search needs) (λ c. search needs)
+    (λ c κs. omega (arith, small (c .before .before))) (λ c. search needs) (λ c κs. omega (arith, small (c .before .before))) returns returns-2)
