@@ -41,8 +41,9 @@ numbers-pass f s e readable =
 outer-at-most : (readings lengths : ℕ) → 1 ≤ lengths → outerDiameter readings lengths ≤ piUnder * readings
 unfolding outerDiameter
 outer-at-most readings lengths some =
+    let dividend = piUnder * readings in
     let divisor : 1 ≤ 2 * piOver * lengths = omega arith in
-    nearest-at-most (piUnder * readings) (piUnder * readings) (2 * piOver * lengths) divisor (omega (arith, mul-le-mul-left (piUnder * readings) divisor))
+    nearest-at-most dividend dividend (2 * piOver * lengths) divisor (omega (arith, mul-le-mul-left dividend divisor))
 
 pub diameters-small : (f : Format) (s : List ℕ) → NumbersFit f s → (d1 f s < 2 ^ 63) × (d2 f s < 2 ^ 63)
 unfolding shellDiameter headDiameter

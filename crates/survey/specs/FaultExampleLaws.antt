@@ -34,6 +34,10 @@ file dh count offset circumference length high volume =
 abbrev About : List ℕ → (number place : ℕ) → Fault → Type 0
 About s number place fault = (decoded s .verdict ≡ Refused (refusal number place)) × (faultOf s number place ≡ fault)
 
+-- 2^32 - 10,000,001 is the word of -10,000,001
+abbrev volumeTooLow : Fault
+volumeTooLow = record { sentence = 18; item = 2; value = negℤ (pos 10000001); low = negℤ (pos 10000000); high = pos 10000000 }
+
 -- DH, a count, the deadwood from the courses' last byte on, the sum of the lengths, D1, item 2's high height above DH and its volume
 pub changed-words : About (file 49999 1 64 160221 100000 400 5) 5 4 (faultWith 1 0 49999 50000 500000)
     × About (file 50000 41 64 160221 100000 400 5) 2 0 (faultWith 8 0 41 1 40)
@@ -41,7 +45,7 @@ pub changed-words : About (file 49999 1 64 160221 100000 400 5) 5 4 (faultWith 1
     × About (file 50000 1 64 160221 99999 400 5) 6 0 (faultWith 22 0 99999 0 100000)
     × About (file 50000 1 64 300000 100000 400 5) 7 0 (faultWith 23 50000 72246 50000 500000)
     × About (file 50000 1 64 160221 100000 50001 5) 5 80 (faultWith 17 2 50001 0 50000)
-    × About (file 50000 1 64 160221 100000 400 4284967295) 5 84 (record { sentence = 18; item = 2; value = negℤ (pos 10000001); low = negℤ (pos 10000000); high = pos 10000000 })
+    × About (file 50000 1 64 160221 100000 400 4284967295) 5 84 volumeTooLow
 unfolding rowsOf nearest items kindKnown kindOf lengthFits word signedWord countFits placed apart sumOf sumsOver outerDiameter wall shellDiameter headDiameter diameterFits layoutTests headerTests courseTests itemTests dimensionTests fileTests decoded headerLimits headerFault countFault placeFault courseFault volumeFault itemFault fieldFault numberFault numbersPass lengthsFault diameterFault dimensionFault headedFault faultAs faultOf
 changed-words = ((refl, refl), (refl, refl), (refl, refl), (refl, refl), (refl, refl), (refl, refl), (refl, refl))
 

@@ -1,8 +1,8 @@
 -- Each number of a file has its sentence: every word of the header, and every word of every record of a section that is well placed, with
 -- the record counted from 1. And the limits that a refusal of a number names are those that the number is tested by. Assumes nothing.
 use Prim.Native.Nat.{ℕ, _+_, _*_, _-_, _/_, _%_, _≤_, _<_}
-use mathlib.Core.Path.{_≡_, refl, sym, _∙_, ap}
-use mathlib.Core.Bool.{Bool, true, false, _&&_, _||_}
+use mathlib.Core.Path.{_≡_, refl, _∙_, ap}
+use mathlib.Core.Bool.{Bool, true, false, _||_}
 use mathlib.Core.List.{List, [], _∷_, map, List·Memᴰ, List·Memᴰ·head, List·Memᴰ·tail}
 use native.Mathlib.Nat.{mul-le-mul-left, div-eq-of-lt-le, div-add-mod'}
 use native.Mathlib.Omega.{arith}

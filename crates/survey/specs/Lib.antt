@@ -1,5 +1,6 @@
--- The survey file as document 01 gives it: words, layout, sections, limits, dimensions, the ordered tests and the survey that a file
--- holds; then what the tests promise, that no wall is thicker than its tube, and that bytes in no section are ignored.
+-- The survey file as document 01 gives it: words, layout, sections, limits, dimensions, the ordered tests, the survey that a file holds
+-- and what a refusal is about; then what the tests promise, that no wall is thicker than its tube, that bytes in no section are ignored,
+-- and that every number and every refusal has its sentence.
 pub mod Word
 pub mod Layout
 pub mod Limits
@@ -21,5 +22,6 @@ pub mod NumberedLaws
 pub mod IgnoredLaws
 pub mod DimensionLaws
 pub mod FaultLaws
+pub mod NamedLaws
 pub mod ExampleLaws
 pub mod FaultExampleLaws

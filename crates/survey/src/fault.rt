@@ -1,6 +1,6 @@
 // What a refusal is about: the sentence that says it, and the numbers that the sentence names.
 ghost use mathlib.Core.Path.{_≡_};
-ghost use Prim.Native.Nat.{_+_, _^_, _≤_, _<_};
+ghost use Prim.Native.Nat.{_^_, _≤_, _<_};
 ghost use lib.ListN.{length};
 ghost use Rattle.measure.specs.Diameter.{smallest, largest};
 ghost use Rattle.survey.specs.Layout.{headerEnd};
@@ -43,6 +43,7 @@ pub struct Fault {
     pub high: i64,
 }
 
+// A fault whose numbers have no sign.
 pub fn fault_with(sentence: u32, item: u32, value: u64, low: u32, high: u32) -> Fault
     requires { ⌜ value < 2 ^ 63 ⌝ }
     ensures { λ r. ⌜ r ≡ faultWith sentence item value low high ⌝ }
@@ -110,6 +111,7 @@ fn place_fault(f: Format, s: &[u8]) -> Fault
     )
 }
 
+// Whether a verdict refuses nothing.
 fn passed(v: Verdict) -> bool
     ensures { λ r. ⌜ r ≡ passed v ⌝ }
 {
@@ -226,7 +228,7 @@ fn fault_as(f: Format, s: &[u8], number: u32, place: u32) -> Fault
     headed_fault(f, s, number, place)
 }
 
-// Of any bytes, any number and any place.
+// What a refusal of a file is about, by its number and its place. Of any bytes, any number and any place.
 pub fn fault_of(s: &[u8], number: u32, place: u32) -> Fault
     ensures { λ r. ⌜ r ≡ faultOf (now (s .entry)) number place ⌝ }
 {

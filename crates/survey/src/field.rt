@@ -1,13 +1,12 @@
 // What a refused number of the file is: the header's word or the record's word that starts at a byte, with its limits.
 ghost use mathlib.Core.Path.{_≡_};
-ghost use Prim.Native.Nat.{_+_, _%_, _^_, _≤_, _<_};
+ghost use Prim.Native.Nat.{_+_, _^_, _≤_, _<_};
 ghost use lib.ListN.{length};
 ghost use Rattle.survey.specs.Layout.{headerEnd, courseEnd};
-ghost use Rattle.survey.specs.Section.{recordLong};
+ghost use Rattle.survey.specs.Section.{recordLong, sections};
 ghost use Rattle.survey.specs.SectionLaws.{Readable, Small};
 ghost use Rattle.survey.specs.Fault.{limits, lengthLimits, offsetLimits, headerLimits, courseLimits, limitsAt, headerItem, headerFault};
 ghost use Rattle.survey.specs.Fault.{courseFault, volumeFault, itemFault, recordFault, holds, startsWord, fieldFault, sectionsFault, numberFault};
-ghost use Rattle.survey.specs.Section.{sections};
 use crate::fault::Fault;
 use crate::fault::fault_with;
 use crate::fault::unknown;
@@ -45,13 +44,14 @@ pub struct Limits {
     pub high: u32,
 }
 
+// A number from one to another.
 fn between(low: u32, high: u32) -> Limits
     ensures { λ r. ⌜ r ≡ limits low high ⌝ }
 {
     Limits { low, high }
 }
 
-// Of one head's length, by its kind.
+// The limits of one head's length, by its kind.
 fn length_limits(kind: HeadKind) -> Limits
     ensures { λ r. ⌜ r ≡ lengthLimits kind ⌝ }
 {
@@ -190,6 +190,7 @@ fn item_fault(s: &[u8], at: usize, item: u32, k: usize) -> Fault
     }
 }
 
+// The number at a byte, which is byte k of a record of a kind.
 fn record_fault(records: Records, s: &[u8], at: usize, item: u32, k: usize) -> Fault
     requires { ⌜ (headerEnd ≤ length (now s)) × (at + 4 ≤ length (now s)) × (k < recordLong records) ⌝ }
     ensures { λ r. ⌜ r ≡ recordFault records (now (s .entry)) at item k ⌝ }

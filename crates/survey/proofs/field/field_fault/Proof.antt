@@ -1,6 +1,5 @@
 -- `survey::field::field_fault` meets its contract: its tests are the definition's, and a record has words. Assumes nothing.
 use Prim.Native.Nat.{_-_, _*_, _/_, _%_, _≤_}
-use mathlib.Core.Bool.{Bool}
 use mathlib.Core.Path.{_≡_, sym, _∙_, ap}
 use native.Mathlib.Nat.{div-mul-le-self, mul-le-mul-left}
 use native.Mathlib.Omega.{arith}

@@ -1,0 +1,185 @@
+-- Every refusal that a file gets has a sentence of its own: none is said to be not one of this survey's. Assumes nothing.
+use Prim.Native.Nat.{ℕ, zero, suc, _+_, _*_, _≤_, _<_}
+use mathlib.Core.Path.{_≡_, refl, sym, _∙_}
+use mathlib.Core.Bool.{Bool, true, false}
+use mathlib.Core.List.{List, [], _∷_, _++_, List·Memᴰ, List·Memᴰ·head, List·Memᴰ·tail}
+use native.Mathlib.Omega.{arith}
+use borrow.Author.Tests.{leb-true, le-leb}
+use lib.Dec.{leb}
+use lib.ListN.{length}
+use Rattle.laws.specs.Order.{pick}
+use Rattle.laws.specs.BoolLaws.{by-test}
+use Rattle.refusal.specs.declared.Refusal.{Refusal}
+use Rattle.refusal.specs.declared.Verdict.{Verdict}
+use Rattle.refusal.specs.declared.Verdict.the-variants.{Passed, Refused}
+use Rattle.refusal.specs.Test.{Test, test, refusal, verdict, items, within, firstRefusal}
+use Rattle.refusal.specs.TestLaws.{verdict-append, passed-all, passed-append, within-pass}
+use Rattle.heads.specs.Kind.{kindKnown}
+use Rattle.survey.specs.declared.format.Format.{Format}
+use Rattle.survey.specs.declared.section.Section.{Section}
+use Rattle.survey.specs.declared.section.Records.{Records}
+use Rattle.survey.specs.declared.section.Records.the-variants.{Courses, Deadwood}
+use Rattle.survey.specs.Word.{word}
+use Rattle.survey.specs.Layout.{today, headerEnd, kindAt, dhAt}
+use Rattle.survey.specs.Limits.{largestFile}
+use Rattle.survey.specs.Section.{courses, deadwood, sections, recordAt, countFits, placed, apart, recordLong}
+use Rattle.survey.specs.Dimensions.{d1, diameterFits}
+use Rattle.survey.specs.Sentence.{ofUnknown}
+use Rattle.survey.specs.Tests.{countTests, placeTests, layoutTests, headerTests, numberTests, dimensionTests, fileTests}
+use Rattle.survey.specs.Tests.{courseTests, itemTests, recordTests, sectionTests, sectionsTests}
+use Rattle.survey.specs.Fault.{sizeFault, headerFault, countFault, placeFault, headedFault, faultAs, faultOf}
+use Rattle.survey.specs.Fault.{numbersPass, lengthsFault, diameterFault, dimensionFault}
+use Rattle.survey.specs.Survey.{decoded}
+use Rattle.survey.specs.SectionLaws.{Readable}
+use Rattle.survey.specs.SurveyLaws.{today-readable}
+use Rattle.survey.specs.NumberedLaws.{decoded-verdict}
+use Rattle.survey.specs.FaultLaws.{ofRecords, every-header-word-named, every-record-word-named}
+
+-- what holds of the refusal of each test of a list holds of its verdict's
+module _ (P : Refusal → Type 0) where
+  abbrev Each : List Test → Type 0
+  Each [] = Unit
+  Each (t ∷ ts) = P (refusal (t .number) (t .place)) × Each ts
+
+  each-append : (ts us : List Test) → Each ts → Each us → Each (ts ++ us)
+  each-append [] us p q = q
+  each-append (t ∷ ts) us p q = (p .0, each-append ts us (p .1) q)
+
+  each-item : (n : ℕ) (g : ℕ → List Test) → ((i : ℕ) → i < n → Each (g i)) → Each (items n g)
+  unfolding items
+  each-item zero g each = tt
+  each-item (suc n) g each = each-append (items n g) (g n) (each-item n g (λ i l. each i (omega arith))) (each n (omega arith))
+
+  refused-each : (ts : List Test) → Each ts → (r : Refusal) → verdict ts ≡ Refused r → P r
+  refused-each [] p r e = absurd (let z : _≡_ {A = ℕ} 0 1 = cc in omega arith)
+  refused-each (t ∷ ts) p r e = by-pass (t .passes) (refused-each ts (p .1) r) e
+    where
+      by-pass : (b : Bool) → (verdict ts ≡ Refused r → P r) → pick b (verdict ts) (Refused (refusal (t .number) (t .place))) ≡ Refused r → P r
+      by-pass true rest e = rest e
+      by-pass false rest e = let same : refusal (t .number) (t .place) ≡ r = cc in rw (← same) (p .0)
+
+-- a refusal comes from the first of two lists, or that passes and it comes from the second
+refused-append : {A : Type 0} (ts us : List Test) (r : Refusal) → verdict (ts ++ us) ≡ Refused r
+    → (verdict ts ≡ Refused r → A) → (verdict ts ≡ Passed → verdict us ≡ Refused r → A) → A
+refused-append {A} ts us r e f g = by-first (verdict ts) refl (sym (verdict-append ts us) ∙ e)
+  where
+    by-first : (v : Verdict) → verdict ts ≡ v → firstRefusal v (verdict us) ≡ Refused r → A
+    by-first Passed p e = g p e
+    by-first (Refused q) p e = f (p ∙ e)
+
+-- a file in a format
+
+abbrev Named : Format → List ℕ → Refusal → Type 0
+Named f s r = faultAs f s (r .number) (r .place) .sentence < ofUnknown
+
+size-named : (f : Format) (s : List ℕ) → Named f s (refusal 1 0)
+unfolding sizeFault faultAs
+size-named f s = by-test (leb (length s) largestFile) (λ e. rw e (omega arith)) (λ e. rw e (omega arith))
+
+records-known : (records : Records) (w : ℕ) → 4 * w + 4 ≤ recordLong records → ofRecords records + w < ofUnknown
+records-known Courses w inside = omega arith
+records-known Deadwood w inside = omega arith
+
+-- .. that has its header
+module _ (f : Format) (s : List ℕ) (readable : Readable f) (header : f .header ≤ length s) where
+  has-header : leb (f .header) (length s) ≡ true
+  has-header = le-leb (f .header) (length s) header
+
+  count-named : Named f s (refusal 2 0)
+  unfolding headerFault countFault headedFault faultAs
+  count-named = rw has-header (by-test (countFits Courses (courses f s .count)) (λ e. rw e (omega arith)) (λ e. rw e (omega arith)))
+
+  place-named : Named f s (refusal 3 0)
+  unfolding headerFault placeFault headedFault faultAs
+  place-named =
+      rw has-header
+      (by-test (placed (f .header) (length s) (courses f s))
+      (λ e. rw e (by-test (apart (courses f s) (deadwood f s)) (λ e. rw e (omega arith)) (λ e. rw e (omega arith))))
+      (λ e. rw e (omega arith)))
+
+  kind-named : Named f s (refusal 4 0)
+  unfolding headerFault headedFault faultAs
+  kind-named = rw has-header (omega arith)
+
+  layout-named : Each (Named f s) (layoutTests f s)
+  unfolding layoutTests
+  layout-named = (count-named, (count-named, (place-named, (place-named, (place-named, (kind-named, tt))))))
+
+  header-named : Each (Named f s) (headerTests s)
+  unfolding headerTests
+  header-named = (word-named 1 refl, (word-named 2 refl, (word-named 3 refl, (word-named 4 refl, (word-named 5 refl, (word-named 6 refl, (word-named 7 refl, tt)))))))
+    where
+      word-named : (w : ℕ) → leb (4 * w + 4) headerEnd ≡ true → Named f s (refusal 5 (4 * w))
+      word-named w e =
+          let inside = leb-true (4 * w + 4) headerEnd e in
+          omega (arith, every-header-word-named f s readable header w inside)
+
+  -- .. and passes refusal 3
+  module _ (passed : verdict (placeTests (f .header) (length s) (sections f s)) ≡ Passed) where
+    record-named : (x : Section) → List·Memᴰ x (sections f s) → (i : ℕ) → i < x .count
+        → Each (Named f s) (recordTests (x .records) s (recordAt x i))
+    unfolding courseTests itemTests
+    record-named x of i l = by-records (x .records) refl
+      where
+        word-named : (records : Records) → x .records ≡ records → (w : ℕ) → leb (4 * w + 4) (recordLong records) ≡ true
+            → Named f s (refusal 5 (recordAt x i + 4 * w))
+        word-named records e w fits =
+            let inside = leb-true (4 * w + 4) (recordLong records) fits in
+            let named = every-record-word-named f s readable header passed x of i l w (rw e inside) .0 in
+            omega (arith, rw e at named, records-known records w inside)
+
+        by-records : (records : Records) → x .records ≡ records → Each (Named f s) (recordTests records s (recordAt x i))
+        by-records Courses e = (word-named Courses e 0 refl, (word-named Courses e 1 refl, (word-named Courses e 2 refl, (word-named Courses e 3 refl, tt))))
+        by-records Deadwood e = (word-named Deadwood e 1 refl, (word-named Deadwood e 2 refl, tt))
+
+    section-named : (x : Section) → List·Memᴰ x (sections f s) → Each (Named f s) (sectionTests s x)
+    section-named x of = each-item (Named f s) (x .count) (λ i. recordTests (x .records) s (recordAt x i)) (record-named x of)
+
+    numbers-named : Each (Named f s) (numberTests f s)
+    numbers-named =
+        each-append (Named f s) (headerTests s) (sectionsTests s (sections f s)) header-named
+        (each-append (Named f s) (sectionTests s (courses f s)) (sectionTests s (deadwood f s) ++ [])
+        (section-named (courses f s) (List·Memᴰ·head refl))
+        (each-append (Named f s) (sectionTests s (deadwood f s)) [] (section-named (deadwood f s) (List·Memᴰ·tail (List·Memᴰ·head refl))) tt))
+
+  dimensions-named : numbersPass f s ≡ true → Each (Named f s) (dimensionTests f s)
+  unfolding lengthsFault diameterFault dimensionFault headedFault faultAs dimensionTests
+  dimensions-named pass =
+      let by-diameter = by-test (diameterFits (d1 f s) (word s dhAt)) in
+      (rw (has-header, pass) (omega arith), (rw (has-header, pass) (by-diameter (λ e. rw e (omega arith)) (λ e. rw e (omega arith))), tt))
+
+-- what the verdicts before say
+
+places-pass : (f : Format) (s : List ℕ) → verdict (layoutTests f s) ≡ Passed → verdict (placeTests (f .header) (length s) (sections f s)) ≡ Passed
+unfolding layoutTests
+places-pass f s e =
+    let places = placeTests (f .header) (length s) (sections f s) in
+    let kind = test 4 0 (kindKnown (word s kindAt)) ∷ [] in
+    passed-append (countTests (sections f s)) places (passed-append (countTests (sections f s) ++ places) kind e .0) .1
+
+all-pass : (f : Format) (s : List ℕ) → within (f .header) (length s) largestFile ≡ true → verdict (layoutTests f s) ≡ Passed
+    → verdict (numberTests f s) ≡ Passed → numbersPass f s ≡ true
+unfolding numbersPass
+all-pass f s size layout numbers = rw (size, layout, numbers)
+
+pub every-refusal-named : (f : Format) (s : List ℕ) → Readable f → (r : Refusal) → verdict (fileTests f s) ≡ Refused r → Named f s r
+unfolding fileTests
+every-refusal-named f s readable r e =
+    let of-size = test 1 0 (within (f .header) (length s) largestFile) ∷ [] in
+    refused-append of-size (layoutTests f s ++ (numberTests f s ++ dimensionTests f s)) r e
+    (refused-each (Named f s) of-size (size-named f s, tt) r)
+    (λ size e.
+    let fits = passed-all of-size size .0 in
+    let header = within-pass (f .header) (length s) largestFile fits .0 in
+    refused-append (layoutTests f s) (numberTests f s ++ dimensionTests f s) r e
+    (refused-each (Named f s) (layoutTests f s) (layout-named f s readable header) r)
+    (λ layout e.
+    refused-append (numberTests f s) (dimensionTests f s) r e
+    (refused-each (Named f s) (numberTests f s) (numbers-named f s readable header (places-pass f s layout)) r)
+    (λ numbers e. refused-each (Named f s) (dimensionTests f s) (dimensions-named f s readable header (all-pass f s fits layout numbers)) r e)))
+
+-- in today's format, of whatever decoding refuses
+pub every-refusal-has-its-sentence : (s : List ℕ) (r : Refusal) → decoded s .verdict ≡ Refused r
+    → faultOf s (r .number) (r .place) .sentence < ofUnknown
+unfolding faultOf
+every-refusal-has-its-sentence s r e = every-refusal-named today s today-readable r (sym (decoded-verdict s) ∙ e)
