@@ -1,15 +1,20 @@
 -- Each answer as plain numbers: the refusal's number and place, both 0 where nothing is refused, and the figures, all 0 in a
--- refusal. Assumes nothing.
+-- refusal; and a refusal in words. Assumes nothing.
+use lib.ListN.{length, replicate}
 use Rattle.measure.specs.Quantity.{diameterUnits, dipUnits, volumeUnits}
+use Rattle.survey.specs.declared.fault.Fault.{Fault}
 use Rattle.table.specs.declared.make.Made.{Made}
 use Rattle.table.specs.declared.make.Made.the-variants as made
 use Rattle.lookup.specs.declared.litres.LitresAnswer.{LitresAnswer}
 use Rattle.lookup.specs.declared.litres.LitresAnswer.the-variants as litres
 use Rattle.lookup.specs.declared.height.HeightAnswer.{HeightAnswer}
 use Rattle.lookup.specs.declared.height.HeightAnswer.the-variants as height
+use Rattle.text.specs.Put.{overwritten}
+use Rattle.wording.specs.Sentences.{faultSize, faultWords}
 use Rattle.capi.specs.declared.numbers.TableNumbers.{TableNumbers}
 use Rattle.capi.specs.declared.numbers.LitresNumbers.{LitresNumbers}
 use Rattle.capi.specs.declared.numbers.HeightNumbers.{HeightNumbers}
+use Rattle.capi.specs.declared.numbers.Words.{Words}
 
 abbrev pub tableNumbers : Made → TableNumbers
 tableNumbers (made.Table d1 d2 rows) = record { refusal = 0; place = 0; d1 = diameterUnits d1; d2 = diameterUnits d2; rows = rows }
@@ -22,3 +27,7 @@ litresNumbers (litres.Refused r) = record { refusal = r .number; place = r .plac
 abbrev pub heightNumbers : HeightAnswer → HeightNumbers
 heightNumbers (height.Height h) = record { refusal = 0; place = 0; height = dipUnits h }
 heightNumbers (height.Refused r) = record { refusal = r .number; place = r .place; height = 0 }
+
+-- a refusal in words: how many bytes, and these at the front of a text that is 0 behind them
+abbrev pub wordsOf : Fault → Words
+wordsOf f = record { length = length (faultWords f); text = overwritten (faultWords f) (replicate faultSize 0) }

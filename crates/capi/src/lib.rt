@@ -1,13 +1,16 @@
-// The calls that C programs make, under names that begin with milechime_: the table of a survey and both lookups, on numbers and
-// slices alone. A slice is a pointer and a length to C. Nothing is asked of a caller but that these are what they say.
+// The calls that C programs make, under names that begin with milechime_: the table of a survey, both lookups, and a refusal in words, on numbers
+// and slices alone. A slice is a pointer and a length to C. Nothing is asked of a caller but that these are what they say.
 ghost use mathlib.Core.Path.{_≡_};
+ghost use Prim.Native.Nat.{_<_};
 ghost use lib.ListN.{length};
 ghost use Rattle.laws.specs.Exactly.{Exactly};
 ghost use Rattle.survey.specs.Survey.{decoded};
+ghost use Rattle.survey.specs.Fault.{faultOf};
 ghost use Rattle.table.specs.Answer.{made, tableLeft};
 ghost use Rattle.table.specs.Condition3.{NetRowAt, Condition3At};
 ghost use Rattle.lookup.specs.Answer.{litresAnswer, TooHigh, heightAnswer, TooMuch};
-ghost use Rattle.capi.specs.Numbers.{tableNumbers, litresNumbers, heightNumbers};
+ghost use Rattle.wording.specs.Sentences.{faultSize};
+ghost use Rattle.capi.specs.Numbers.{tableNumbers, litresNumbers, heightNumbers, wordsOf};
 ghost use Rattle.capi.specs.Promises.{EveryCounted, OnTableAnswered, LowestAnswered};
 use lookup::height::height_for;
 use lookup::litres::litres_at;
@@ -16,10 +19,13 @@ use measure::volume::Volume;
 use numbers::HeightNumbers;
 use numbers::LitresNumbers;
 use numbers::TableNumbers;
+use numbers::Words;
 use numbers::height_numbers;
 use numbers::litres_numbers;
 use numbers::table_numbers;
+use survey::fault::fault_of;
 use table::make::make_table;
+use wording::put_words;
 
 pub mod numbers;
 
@@ -52,4 +58,19 @@ pub extern "C" fn milechime_height(dh: u32, step: u32, table: &[u32], volume: u3
     ensures { λ r. ⌜ Exactly (r .refusal ≡ 13) (TooMuch dh step (now (table .entry)) volume) ⌝ }
 {
     height_numbers(height_for(dh, step, table, Volume::of(volume)))
+}
+
+// What a refusal of a survey's table is about, in words.
+#[no_mangle]
+pub extern "C" fn milechime_words(survey: &[u8], refusal: u32, place: u32) -> Words
+    ensures { λ r. ⌜ r ≡ wordsOf (faultOf (now (survey .entry)) refusal place) ⌝ }
+    ensures { λ r. ⌜ r .length < faultSize ⌝ }
+{
+    let fault = fault_of(survey, refusal, place);
+    let mut text = [0u8; 256];
+    let length = put_words(&mut text, 0, fault);
+    Words {
+        length: length as u32,
+        text,
+    }
 }

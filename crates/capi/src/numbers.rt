@@ -29,6 +29,13 @@ pub struct HeightNumbers {
     pub height: u32,
 }
 
+// The words of a refusal: the first `length` bytes of the text; behind them it is 0, and at least one byte is.
+#[repr(C)]
+pub struct Words {
+    pub length: u32,
+    pub text: [u8; 256],
+}
+
 pub fn table_numbers(answer: Made) -> TableNumbers
     ensures { λ r. ⌜ r ≡ tableNumbers answer ⌝ }
 {

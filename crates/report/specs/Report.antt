@@ -33,6 +33,10 @@ fileFault s r = faultOf s (r .number) (r .place)
 
 -- the table of a file
 
+-- room for a line for each of the most rows, and the line before them
+abbrev pub outSize : ℕ
+outSize = 131072
+
 -- a line for each of the first n rows
 unfoldable pub rowsText : (dh step : ℕ) (table : List ℕ) (n : ℕ) → List ℕ
 rowsText dh step table zero = []

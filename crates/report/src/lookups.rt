@@ -1,9 +1,13 @@
-// A lookup on the table of a survey file: its answer, or the refusal of the file or of what was asked for.
+// A lookup on the table of a survey file: its answer, or the refusal of the file or of what was asked for. A memory of LINE_SIZE and one of
+// ERR_SIZE bytes have room for all that is said.
 ghost use mathlib.Core.Path.{_≡_};
 ghost use Rattle.survey_lookup.specs.Answer.{litresIn, heightIn, deliveredIn};
 ghost use Rattle.survey_lookup.specs.Tabled.{lastRow};
 ghost use Rattle.text.specs.Put.{Says};
+ghost use Rattle.text.specs.SizeLaws.{lineSize};
+ghost use Rattle.wording.specs.Sentences.{faultSize};
 ghost use Rattle.report.specs.Report.{askedFault, litresText, litresWords, heightText, heightWords, higher, deliveredText, deliveredWords};
+use crate::LINE_SIZE;
 use crate::Said;
 use crate::refused::refused_said;
 use lookup::delivered::DeliveredAnswer;
@@ -36,8 +40,9 @@ fn asked_fault(own: u32, fault: Fault, survey: &[u8], r: Refusal) -> Fault
 
 // The litres at a dip height.
 pub fn litres_said(survey: &[u8], t: Tabled, asked: u32, out: &mut [u8], err: &mut [u8]) -> Said
-    ensures { λ r. ⌜ Says (litresText (litresIn t asked)) (now (out .entry)) (now (out .exit)) (r .out) ⌝ }
-    ensures { λ r. ⌜ Says (litresWords (now (survey .entry)) (t .dh) asked (litresIn t asked)) (now (err .entry)) (now (err .exit)) (r .err) ⌝ }
+    ensures { λ r. ⌜ Says lineSize (litresText (litresIn t asked)) (now (out .entry)) (now (out .exit)) (r .out) ⌝ }
+    ensures { λ r. ⌜ Says faultSize (litresWords (now (survey .entry)) (t .dh) asked (litresIn t asked)) (now (err .entry)) (now (err .exit)) (r .err) ⌝ }
+    ensures { λ r. do ⌜ (← ⟦LINE_SIZE⟧ .entry) ≡ lineSize ⌝ }
 {
     let answer = litres_in(t, DipHeight::of(asked));
     match answer {
@@ -54,8 +59,8 @@ pub fn litres_said(survey: &[u8], t: Tabled, asked: u32, out: &mut [u8], err: &m
 
 // The lowest dip height for a volume.
 pub fn height_said(survey: &[u8], t: Tabled, asked: u32, out: &mut [u8], err: &mut [u8]) -> Said
-    ensures { λ r. ⌜ Says (heightText (heightIn t asked)) (now (out .entry)) (now (out .exit)) (r .out) ⌝ }
-    ensures { λ r. ⌜ Says (heightWords (now (survey .entry)) (lastRow t) asked (heightIn t asked)) (now (err .entry)) (now (err .exit)) (r .err) ⌝ }
+    ensures { λ r. ⌜ Says lineSize (heightText (heightIn t asked)) (now (out .entry)) (now (out .exit)) (r .out) ⌝ }
+    ensures { λ r. ⌜ Says faultSize (heightWords (now (survey .entry)) (lastRow t) asked (heightIn t asked)) (now (err .entry)) (now (err .exit)) (r .err) ⌝ }
 {
     let answer = height_in(t, Volume::of(asked));
     match answer {
@@ -86,8 +91,8 @@ pub fn delivered_said(
     out: &mut [u8],
     err: &mut [u8],
 ) -> Said
-    ensures { λ r. ⌜ Says (deliveredText (deliveredIn t before after)) (now (out .entry)) (now (out .exit)) (r .out) ⌝ }
-    ensures { λ r. ⌜ Says (deliveredWords (now (survey .entry)) (t .dh) before after (deliveredIn t before after)) (now (err .entry)) (now (err .exit)) (r .err) ⌝ }
+    ensures { λ r. ⌜ Says lineSize (deliveredText (deliveredIn t before after)) (now (out .entry)) (now (out .exit)) (r .out) ⌝ }
+    ensures { λ r. ⌜ Says faultSize (deliveredWords (now (survey .entry)) (t .dh) before after (deliveredIn t before after)) (now (err .entry)) (now (err .exit)) (r .err) ⌝ }
 {
     let answer = delivered_in(t, DipHeight::of(before), DipHeight::of(after));
     match answer {

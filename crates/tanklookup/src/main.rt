@@ -4,11 +4,12 @@ ghost use Rattle.io.specs.Counts.{Counts};
 use libc::STDERR_FILENO;
 use libc::STDOUT_FILENO;
 use refusal::Verdict;
+use report::ERR_SIZE;
+use report::LINE_SIZE;
 use report::Said;
 use report::lookups::delivered_said;
 use report::lookups::height_said;
 use report::lookups::litres_said;
-use report::table::ERR_SIZE;
 use streams::read_input;
 use streams::read_named;
 use streams::write_output;
@@ -18,9 +19,6 @@ use survey_lookup::Tabled;
 use survey_lookup::table_of;
 use text::read::Figure;
 use text::read::read_figure;
-
-// Room for the line of an answer.
-const LINE_SIZE: usize = 64;
 
 enum Command {
     Litres,

@@ -1,8 +1,8 @@
 // tanktable: the capacity table of a survey, or the line of its refusal; and beside a refusal, on standard error, what it means in words.
 use libc::STDERR_FILENO;
 use libc::STDOUT_FILENO;
-use report::table::ERR_SIZE;
-use report::table::OUT_SIZE;
+use report::ERR_SIZE;
+use report::OUT_SIZE;
 use report::table::table_said;
 use streams::read_input;
 use streams::read_named;

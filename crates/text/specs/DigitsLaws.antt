@@ -12,7 +12,7 @@ use lib.ListN.{length, length-append}
 use Rattle.laws.specs.BoolLaws.{true-not-false}
 use Rattle.laws.specs.OrderLaws.{by-order}
 use Rattle.text.specs.Ascii.{ascii}
-use Rattle.text.specs.Digits.{digitOf, significant, digits, hundredths, threeDigits, inThrees, minusOf, signOf}
+use Rattle.text.specs.Digits.{digitOf, significant, digits, hundredths, threeDigits, inThrees, mostCommas, grouped, minusOf, signOf}
 
 significant-none : (k : ℕ) → significant k 0 ≡ []
 unfolding significant
@@ -101,3 +101,36 @@ pub sign-not-above : (z : ℤ) → ltZ (pos 0) z ≡ false → signOf z ≡ minu
 sign-not-above (pos zero) h = refl
 sign-not-above (pos (suc n)) h = absurd (omega (arith, ltb-false 0 (suc n) h))
 sign-not-above (negsuc n) h = refl
+
+-- of 64 bits with a sign
+
+pub digits-of-64 : (n : ℕ) → n ≤ 2 ^ 63 → length (digits n) ≤ 19
+digits-of-64 n h = length-digits 18 n (omega arith)
+
+pub hundredths-of-64 : (n : ℕ) → n ≤ 2 ^ 63 → length (hundredths n) ≤ 20
+hundredths-of-64 n h = rw (length-hundredths n) (omega (arith, length-digits 16 (n / 100) (omega arith)))
+
+-- a comma for three digits
+length-thousands : (n : ℕ) → 1000 ≤ n → length (digits n) ≡ length (digits (n / 1000)) + 3
+length-thousands n h =
+    let tens : n / 10 / 10 / 10 ≡ n / 1000 = omega arith in
+    rw (digits-more n (omega arith), digits-more (n / 10) (omega arith), digits-more (n / 10 / 10) (omega arith), tens)
+    (simp length-append (omega arith))
+
+pub length-in-threes : (k n : ℕ) → length (inThrees k n) ≤ length (digits n) + k
+unfolding inThrees
+length-in-threes zero n = omega arith
+length-in-threes (suc k) n =
+    by-order 1000 n
+    (λ l. rw (le-ltb n 1000 l) (simp length-append (omega (arith, length-in-threes k (n / 1000), length-thousands n l))))
+    (λ l. rw (lt-ltb n 1000 l) (omega arith))
+
+pub grouped-of-64 : (n : ℕ) → n ≤ 2 ^ 63 → length (grouped n) ≤ 26
+unfolding grouped
+grouped-of-64 n h =
+    simp length-append (omega (arith, length-in-threes mostCommas (n / 100), length-digits 16 (n / 100) (omega arith)))
+
+pub sign-at-most : (z : ℤ) → (length (minusOf z) ≤ 1) × (length (signOf z) ≤ 1)
+sign-at-most (pos zero) = (omega arith, omega arith)
+sign-at-most (pos (suc n)) = (omega arith, omega arith)
+sign-at-most (negsuc n) = (omega arith, omega arith)

@@ -9,6 +9,7 @@ pub mod Put
 pub mod PutLaws
 pub mod Sentence
 pub mod SentenceLaws
+pub mod SizeLaws
 pub mod Figures
 pub mod FiguresLaws
 pub mod ReadBackLaws

@@ -21,7 +21,11 @@ pub record Put (at : ℕ) (text before after : List ℕ) (next : ℕ) : Type 0 w
   pub memory : after ≡ putAt at text before
   pub next-is : next ≡ behind at text before
 
--- a text was put at the start of a memory, as far as there is room for it, and the first `count` bytes are what was put. The last two parts
--- follow from the first, and are what a slice of those bytes asks.
-abbrev pub Says : (text before after : List ℕ) (count : ℕ) → Type 0
-Says text before after count = Put 0 text before after count × (count ≤ length after) × (count ≡ length (take count after))
+-- a text is said in a memory: it was put at its start, and is there whole if the memory has so much room. The two parts between follow from
+-- the first, and are what a slice of the first `count` bytes asks.
+abbrev pub Says : (room : ℕ) (text before after : List ℕ) (count : ℕ) → Type 0
+Says room text before after count =
+    Put 0 text before after count
+    × (count ≤ length after)
+    × (count ≡ length (take count after))
+    × (room ≤ length before → take count after ≡ text)

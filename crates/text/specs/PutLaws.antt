@@ -94,13 +94,13 @@ put-no-byte at b l h = record {
 pub put-length : {at next : ℕ} {t before after : List ℕ} → Put at t before after next → length after ≡ length before
 put-length {at} {next} {t} {before} {after} put = ap length (put .memory) ∙ length-put at t before
 
-pub says : {t before after : List ℕ} {next : ℕ} → Put 0 t before after next → Says t before after next
-says {t} {before} {after} {next} put =
+-- a text that is no longer than so much
+pub says : {room next : ℕ} {t before after : List ℕ} → length t ≤ room → Put 0 t before after next → Says room t before after next
+says {room} {next} {t} {before} {after} short put =
     let inside : next ≤ length after = omega (arith, put .next-is, put-length put) in
-    (put, inside, sym (length-take-le next after inside))
-
--- a text that the memory has room for is there whole
-pub says-whole : {t before after : List ℕ} {count : ℕ} → length t ≤ length before → Says t before after count → take count after ≡ t
-says-whole {t} {before} {after} {count} fits said =
-    let all : count ≡ length t = omega (arith, said .0 .next-is) in
-    rw (all, said .0 .memory, overwritten-fits t before fits) (take-append-seam t (drop (length t) before))
+    (put, inside, sym (length-take-le next after inside), λ fits. whole (omega arith))
+  where
+    whole : length t ≤ length before → take next after ≡ t
+    whole fits =
+        let all : next ≡ length t = omega (arith, put .next-is) in
+        rw (all, put .memory, overwritten-fits t before fits) (take-append-seam t (drop (length t) before))

@@ -1,7 +1,9 @@
-// The lines that the programs print, each with its line end, put into lent memory.
-ghost use lib.IntN.{natAbs};
+// The lines that the programs print, each with its line end, put into lent memory; and how long a line can be.
+ghost use Prim.Native.Nat.{_≤_};
+ghost use lib.ListN.{length};
 ghost use Rattle.text.specs.Lines.{rowsLine, rowLine, refusedLine, figureLine, signedLine};
 ghost use Rattle.text.specs.Put.{Put};
+ghost use Rattle.text.specs.SizeLaws.{lineSize, rowSize};
 use crate::put::put_byte;
 use crate::put::put_bytes;
 use crate::put::put_digits;
@@ -11,6 +13,7 @@ use crate::put::size;
 
 pub fn rows_line(out: &mut [u8], at: usize, n: u32) -> usize
     ensures { λ r. ⌜ Put at (rowsLine n) (now (out .entry)) (now (out .exit)) r ⌝ }
+    ensures { λ r. ⌜ length (rowsLine n) ≤ lineSize ⌝ }
 {
     let word = put_bytes(out, at, b"rows ");
     let count = put_digits(out, word, n as u64);
@@ -19,6 +22,7 @@ pub fn rows_line(out: &mut [u8], at: usize, n: u32) -> usize
 
 pub fn row_line(out: &mut [u8], at: usize, h: u32, v: u32) -> usize
     ensures { λ r. ⌜ Put at (rowLine h v) (now (out .entry)) (now (out .exit)) r ⌝ }
+    ensures { λ r. ⌜ length (rowLine h v) ≤ rowSize ⌝ }
 {
     let height = put_hundredths(out, at, h as u64);
     let space = put_byte(out, height, b' ');
@@ -28,6 +32,7 @@ pub fn row_line(out: &mut [u8], at: usize, h: u32, v: u32) -> usize
 
 pub fn refused_line(out: &mut [u8], at: usize, number: u32, place: u32) -> usize
     ensures { λ r. ⌜ Put at (refusedLine number place) (now (out .entry)) (now (out .exit)) r ⌝ }
+    ensures { λ r. ⌜ length (refusedLine number place) ≤ lineSize ⌝ }
 {
     let word = put_bytes(out, at, b"refused ");
     let numbered = put_digits(out, word, number as u64);
@@ -38,6 +43,7 @@ pub fn refused_line(out: &mut [u8], at: usize, number: u32, place: u32) -> usize
 
 pub fn figure_line(out: &mut [u8], at: usize, n: u32) -> usize
     ensures { λ r. ⌜ Put at (figureLine n) (now (out .entry)) (now (out .exit)) r ⌝ }
+    ensures { λ r. ⌜ length (figureLine n) ≤ lineSize ⌝ }
 {
     let figure = put_hundredths(out, at, n as u64);
     put_byte(out, figure, b'\n')
@@ -46,6 +52,7 @@ pub fn figure_line(out: &mut [u8], at: usize, n: u32) -> usize
 // A difference, with its sign.
 pub fn signed_line(out: &mut [u8], at: usize, z: i64) -> usize
     ensures { λ r. ⌜ Put at (signedLine z) (now (out .entry)) (now (out .exit)) r ⌝ }
+    ensures { λ r. ⌜ length (signedLine z) ≤ lineSize ⌝ }
 {
     let sign = put_sign(out, at, z);
     let figure = put_hundredths(out, sign, size(z));

@@ -61,9 +61,17 @@ sentences =
 abbrev pub blanksOf : Fault → Blanks
 blanksOf f = record { item = f .item; value = f .value; low = f .low; high = f .high }
 
--- the line that says what a fault is
+-- what a fault is
+unfoldable pub faultWords : Fault → List ℕ
+faultWords f = sentence (blanksOf f) (f .sentence) sentences
+
+-- .. as a line
 unfoldable pub faultLine : Fault → List ℕ
-faultLine f = sentence (blanksOf f) (f .sentence) sentences ++ ascii "\n"
+faultLine f = faultWords f ++ ascii "\n"
+
+-- no line of these is longer
+abbrev pub faultSize : ℕ
+faultSize = 256
 
 -- a lookup's own refusals: a height above the tank, a volume above the last row
 

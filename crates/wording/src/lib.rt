@@ -1,7 +1,9 @@
-// What a refusal is about, in words: one line for standard error, or for whoever calls the library.
+// What a refusal is about, in words: for whoever calls the library, and as a line for standard error.
 ghost use mathlib.Core.Path.{_≡_};
+ghost use Prim.Native.Nat.{_≤_, _<_};
+ghost use lib.ListN.{length};
 ghost use Rattle.text.specs.Put.{Put};
-ghost use Rattle.wording.specs.Sentences.{tooHigh, tooMuch, faultLine};
+ghost use Rattle.wording.specs.Sentences.{tooHigh, tooMuch, faultWords, faultSize, faultLine};
 use survey::fault::Fault;
 use survey::fault::fault_with;
 use survey::sentence::OF_HEIGHT;
@@ -10,8 +12,9 @@ use text::put::put_byte;
 use text::sentence::Blanks;
 use text::sentence::put_sentence;
 
-pub fn put_fault(out: &mut [u8], at: usize, fault: Fault) -> usize
-    ensures { λ r. ⌜ Put at (faultLine fault) (now (out .entry)) (now (out .exit)) r ⌝ }
+pub fn put_words(out: &mut [u8], at: usize, fault: Fault) -> usize
+    ensures { λ r. ⌜ Put at (faultWords fault) (now (out .entry)) (now (out .exit)) r ⌝ }
+    ensures { λ r. ⌜ length (faultWords fault) < faultSize ⌝ }
 {
     let blanks = Blanks {
         item: fault.item,
@@ -19,7 +22,7 @@ pub fn put_fault(out: &mut [u8], at: usize, fault: Fault) -> usize
         low: fault.low,
         high: fault.high,
     };
-    let said = put_sentence(
+    put_sentence(
         out,
         at,
         blanks,
@@ -57,7 +60,15 @@ pub fn put_fault(out: &mut [u8], at: usize, fault: Fault) -> usize
         volume $ (~ L): must be at most the last row, >\n\
         refusal # at place $: not one of this survey's\n\
         ",
-    );
+    )
+}
+
+// .. as a line.
+pub fn put_fault(out: &mut [u8], at: usize, fault: Fault) -> usize
+    ensures { λ r. ⌜ Put at (faultLine fault) (now (out .entry)) (now (out .exit)) r ⌝ }
+    ensures { λ r. ⌜ length (faultLine fault) ≤ faultSize ⌝ }
+{
+    let said = put_words(out, at, fault);
     put_byte(out, said, b'\n')
 }
 

@@ -2,6 +2,7 @@
 use borrow.Author.Needs.{needs}
 use mir.Syntax.{w64}
 use mir.ValLaws.{toZ-ofZ}
+use native.Mathlib.Omega.{arith}
 use mathlib.Core.Path.{_≡_, sym, _∙_}
 use Rattle.text.specs.PutLaws.{put-nothing, says}
 use Rattle.survey_lookup.specs.Answer.{deliveredIn}
@@ -13,7 +14,8 @@ returns c =
     let a = c .before .before .before .before .before .before .before .before .before .before .before .before .before .args in
     let is : deliveredIn (a .t) (a .before) (a .after) ≡ _ =
     sym (rw (c .before .before .before .before .before .before .before .before .before .of .ensures, c .before .before .before .before .before .before .before .before .of2 .ensures) at (c .before .before .before .before .before .before .before .delivered-in .ensures .0)) ∙ c .before .before .before .before .before .answer .given .1 in
-    rw is (says (rw (toZ-ofZ w64 (c .before .before .before .before .before .answer .given .0 .0) (record { sfits = c .before .before .before .before .known-told .given .0 .1 })) at (c .before .before .signed-line .ensures)), says (put-nothing 0 _))
+    let line = rw (toZ-ofZ w64 (c .before .before .before .before .before .answer .given .0 .0) (record { sfits = c .before .before .before .before .known-told .given .0 .1 })) at (c .before .before .signed-line .ensures) in
+    rw is (says (line .1) (line .0), says (omega arith) (put-nothing 0 _))
 
 returns-2 : tie.Need-returns-2
 returns-2 c =

@@ -1,5 +1,6 @@
 -- `report::lookups::height_said` meets its contract: the answer is the lookup's, and each case says what its text is. Assumes nothing.
 use borrow.Author.Needs.{needs}
+use native.Mathlib.Omega.{arith}
 use mathlib.Core.Path.{_≡_, sym, _∙_}
 use Rattle.text.specs.PutLaws.{put-nothing, says}
 use Rattle.survey_lookup.specs.Answer.{heightIn}
@@ -10,7 +11,8 @@ returns : tie.Need-returns
 returns c =
     let a = c .before .before .before .before .before .before .before .before .before .before .before .before .before .args in
     let is : heightIn (a .t) (a .asked) ≡ _ = sym (rw (c .before .before .before .before .before .before .before .before .before .of .ensures) at (c .before .before .before .before .before .before .before .before .height-in .ensures .0)) ∙ c .before .before .before .before .before .before .answer .given .1 in
-    rw is (says (rw (c .before .before .before .units .ensures) at (c .before .before .figure-line .ensures)), says (put-nothing 0 _))
+    let line = rw (c .before .before .before .units .ensures) at (c .before .before .figure-line .ensures) in
+    rw is (says (line .1) (line .0), says (omega arith) (put-nothing 0 _))
 
 returns-2 : tie.Need-returns-2
 returns-2 c =

@@ -5,7 +5,10 @@ use Rattle.report.proofs.refused.refused_said.Statement.{statement}
 use Rattle.report.proofs.refused.refused_said.Tie as tie
 
 returns : tie.Need-returns
-returns c = (says (c .before .before .before .before .before .before .refused-line .ensures), says (c .before .before .put-fault .ensures))
+returns c =
+    let line = c .before .before .before .before .before .before .refused-line .ensures in
+    let words = c .before .before .put-fault .ensures in
+    (says (line .1) (line .0), says (words .1) (words .0))
 
 pub refused-said-spec : {M : Type 1} → statement M
 refused-said-spec =

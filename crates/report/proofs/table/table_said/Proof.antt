@@ -1,7 +1,9 @@
 -- `report::table::table_said` meets its contract: the table is the survey file's own, and each case of its verdict says what its text is.
 -- Assumes nothing.
+use mathlib.Core.Path.{refl}
 use native.Mathlib.Omega.{arith}
 use borrow.Author.Needs.{needs}
+use lib.ListN.{length-append}
 use Rattle.survey_lookup.specs.TabledLaws.{ready-file}
 use Rattle.text.specs.PutLaws.{put-nothing, put-both, says}
 use Rattle.report.specs.Report.{tableText}
@@ -22,12 +24,18 @@ returns : tie.Need-returns
 unfolding tableText
 returns c =
     let said = rw (c .before .before .before .before .before .before .before .fault-of .ensures) at (c .before .before .before .before .refused-said .ensures) in
-    rw (← c .before .before .before .before .before .before .before .before .before .before .before .before .table-of .ensures, c .before .before .before .before .before .before .before .before .before .verdict .given .1) said
+    let line = said .0 in
+    rw (← c .before .before .before .before .before .before .before .before .before .before .before .before .table-of .ensures, c .before .before .before .before .before .before .before .before .before .verdict .given .1)
+    ((line .0, line .1, line .2, λ room. line .3 (omega arith)), (said .1, (refl, refl)))
 
 returns-2 : tie.Need-returns-2
 unfolding tableText
 returns-2 c =
-    rw (← c .before .before .before .before .before .before .before .before .before .before .before .before .before .table-of .ensures, c .before .before .before .before .before .before .before .before .before .before .enum-told .given .1) (says (put-both (c .before .before .before .before .before .before .before .rows-line .ensures) (c .before .before .put-rows .ensures)), says (put-nothing 0 _))
+    let t = ready-file _ (c .before .before .before .before .before .before .before .before .before .before .before .before .before .table-of .ensures) (c .before .before .before .before .before .before .before .before .before .before .enum-told .given .1) in
+    let first = c .before .before .before .before .before .before .before .rows-line .ensures in
+    let rows = c .before .before .put-rows .ensures in
+    rw (← c .before .before .before .before .before .before .before .before .before .before .before .before .before .table-of .ensures, c .before .before .before .before .before .before .before .before .before .before .enum-told .given .1)
+    (says (rw length-append (omega (arith, first .1, rows .1, t .few))) (put-both (first .0) (rows .0)), (says (omega arith) (put-nothing 0 _), (refl, refl)))
 
 pub table-said-spec : {M : Type 1} → statement M
 table-said-spec =

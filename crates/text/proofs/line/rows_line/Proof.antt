@@ -2,12 +2,16 @@
 use borrow.Author.Needs.{needs}
 use Rattle.text.specs.Lines.{rowsLine}
 use Rattle.text.specs.PutLaws.{put-both}
+use Rattle.text.specs.SizeLaws.{rows-line-size}
 use Rattle.text.proofs.line.rows_line.Statement.{statement}
 use Rattle.text.proofs.line.rows_line.Tie as tie
 
 returns : tie.Need-returns
 unfolding rowsLine
-returns c = put-both (put-both (c .before .before .before .before .before .before .before .before .before .before .put-bytes .ensures) (c .before .before .before .before .before .before .put-digits .ensures)) (c .before .before .put-byte .ensures)
+returns c = (
+  put-both (put-both (c .before .before .before .before .before .before .before .before .before .before .put-bytes .ensures) (c .before .before .before .before .before .before .put-digits .ensures)) (c .before .before .put-byte .ensures),
+  rows-line-size (c .before .before .before .before .before .before .before .before .before .before .before .before .before .before .args .n) (c .before .before .before .before .before .before .before .before .before .before .before .before .before .before .fits .n .fits),
+)
 
 pub rows-line-spec : {M : Type 1} → statement M
 rows-line-spec =
