@@ -1,7 +1,7 @@
 /*
- * Milechime: the capacity table of a level, round tank from its survey, and
- * both readings of such a table: the volume at a dip height, and the lowest
- * dip height for a volume.
+ * Milechime: the capacity table of a level, round tank from its survey, both
+ * readings of such a table (the volume at a dip height, and the lowest dip
+ * height for a volume), and what a refusal is about, in words.
  *
  * Units. Lengths are whole numbers of u = 0.01 mm, volumes whole numbers of
  * v = 0.01 L: a dip height of 5000 is 50.00 mm, a volume of 1398 is 13.98 L.
@@ -17,7 +17,8 @@
  * threads at once, each with memory of its own. A call needs less than 64 KiB
  * of stack.
  *
- * Link with libcapi.a (x86-64 Linux).
+ * Link with libcapi.a (x86-64 Linux). It calls nothing of the C library but
+ * memcpy and memset.
  */
 #ifndef MILECHIME_H
 #define MILECHIME_H
@@ -31,6 +32,7 @@ extern "C" {
 
 #define MILECHIME_LARGEST_SURVEY 65536
 #define MILECHIME_MOST_ROWS 5001
+#define MILECHIME_MOST_WORDS 256
 
 /*
  * Refusals. The first number of every answer is 0, or that of the first
@@ -121,6 +123,24 @@ struct milechime_height_answer milechime_height(
     uint32_t dh, uint32_t step,
     const uint32_t *table, size_t table_length,
     uint32_t volume);
+
+/* The answer to milechime_words. */
+struct milechime_words_answer {
+    uint32_t length;                 /* bytes of the text, below MILECHIME_MOST_WORDS */
+    char text[MILECHIME_MOST_WORDS]; /* ASCII, and 0 behind it */
+};
+
+/*
+ * What a refusal by milechime_table is about, in this survey, such as
+ * "deadwood item 2, high height 270000 (2,700.00 mm): must be above its low
+ * height and at most DH 260000". The refusal and its place are those of the
+ * answer, the survey is the same. Courses and deadwood items are counted from
+ * 1, rows from 0. Any other number or place, and any other bytes, get words
+ * too, which then say nothing of use.
+ */
+struct milechime_words_answer milechime_words(
+    const uint8_t *survey, size_t survey_length,
+    uint32_t refusal, uint32_t place);
 
 #ifdef __cplusplus
 }

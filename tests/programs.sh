@@ -1,6 +1,6 @@
 #!/usr/bin/env bash
 # Runs the programs against expected output: tanktable on every example, whose table stands beside it, on one with bytes in no section, on a
-# file of one byte too many and on one that never ends, of which no more is read than tells that it is too long; tanklookup on right and on wrong use.
+# file of one byte too many and on one that never ends, of which no more is read than tells that it is too long; and tanklookup.
 . "$(dirname "$0")/failures.sh"
 program=target/bin/tanktable
 lookup=target/bin/tanklookup
@@ -16,15 +16,15 @@ same() {
 }
 
 for survey in examples/*.survey; do
-    same "$survey" "$(cat "${survey%.survey}.txt")" "$("$program" <"$survey")"
+    same "$survey" "$(cat "${survey%.survey}.txt")" "$("$program" <"$survey" 2>/dev/null)"
 done
-same "65,537 bytes" "refused 1 0" "$(head -c 65537 /dev/zero | "$program")"
-same "a file that never ends" "refused 1 0" "$(timeout 10 "$program" </dev/zero)"
-same "an empty file" "refused 1 0" "$("$program" </dev/null)"
-same "bytes behind the sections" "$(cat examples/six_rows.txt)" "$({ cat examples/six_rows.survey; echo 'bytes in no section'; } | "$program")"
+same "65,537 bytes" "refused 1 0" "$(head -c 65537 /dev/zero | "$program" 2>/dev/null)"
+same "a file that never ends" "refused 1 0" "$(timeout 10 "$program" </dev/zero 2>/dev/null)"
+same "an empty file" "refused 1 0" "$("$program" </dev/null 2>/dev/null)"
+same "bytes behind the sections" "$(cat examples/six_rows.txt)" "$({ cat examples/six_rows.survey; echo 'bytes in no section'; } | "$program" 2>/dev/null)"
 
-# what tanklookup answers, on either stream
-asked() { "$lookup" "${@:2}" <"examples/$1.survey" 2>&1; }
+# what tanklookup answers; what either program says on standard error is tried by tests/shift.py
+asked() { "$lookup" "${@:2}" <"examples/$1.survey" 2>/dev/null; }
 same "height 50.00 mm" "13.98" "$(asked six_rows litres 50.00)"
 same "height 50 mm" "13.98" "$(asked six_rows litres 50)"
 same "13.98 litres" "49.99" "$(asked six_rows height 13.98)"
@@ -35,12 +35,6 @@ same "more than the last row" "refused 13 0" "$(asked six_rows height 196.36)"
 same "nothing, in a tank whose first row is above zero" "0.00" "$(asked deadwood_and_flanges height 0.65)"
 same "a faulty survey" "refused 5 4" "$(asked diameter_too_small litres 50)"
 same "a table that falls" "refused 9 1" "$(asked falling_row height 1)"
-use="expected: tanklookup litres MM, or tanklookup height LITRES, with a survey on standard input; MM and LITRES are figures such as 1250 or 1250.75"
-for wrong in "" "litres" "depth 50" "litres 5." "litres 5.000" "litres -1" "litres 50 60" "height 99999999.99"; do
-    # shellcheck disable=SC2086
-    same "tanklookup $wrong" "$use" "$(asked six_rows $wrong)"
-done
-
 # Document 003 gives the volumes of its tank of 50 cubic metres in cubic metres with three decimals, from a simplified formula. At half
 # height and full that formula is exact, and our rows are its figures (25.078 and 50.155) to within their last digit, one litre. At
 # 0.325 m and 2.275 m it is about 134 litres off (3.619 and 46.537), the other way on either side of the middle.

@@ -4,6 +4,7 @@
 
 void table_checks(void);
 void lookup_checks(void);
+void words_checks(void);
 void thread_checks(void);
 
 #endif

@@ -8,6 +8,7 @@ int main(void)
 {
     table_checks();
     lookup_checks();
+    words_checks();
     thread_checks();
     printf("%u checks, %u failed\n", checks(), failures());
     return failures() == 0 ? 0 : 1;

@@ -1,0 +1,56 @@
+/* milechime_words: what a refusal is about, for refusals that were given and
+ * for numbers and places that never are. */
+#include "checks.h"
+
+#include "check.h"
+#include "lent.h"
+#include "milechime.h"
+#include "paper.h"
+
+#include <string.h>
+
+/* The words are these, of that length, and 0 behind them. */
+static bool says(struct milechime_words_answer a, const char *words)
+{
+    if (a.length != strlen(words) || a.length >= MILECHIME_MOST_WORDS || memcmp(a.text, words, a.length) != 0)
+        return false;
+    for (size_t i = a.length; i < MILECHIME_MOST_WORDS; i++)
+        if (a.text[i] != 0)
+            return false;
+    return true;
+}
+
+/* The refusal that a survey gets, in words. */
+static void told(const uint8_t *survey, size_t length, const char *words)
+{
+    enum { CELLS = 10 };
+    uint32_t *cells = lent_cells(CELLS);
+    const uint8_t *bytes = lent_bytes(survey, length);
+    struct milechime_table_answer a = milechime_table(bytes, length, cells, CELLS);
+    check(a.refusal != 0 && says(milechime_words(bytes, length, a.refusal, a.place), words), words);
+}
+
+static void told_with(size_t at, uint32_t number, const char *words)
+{
+    uint8_t survey[PAPER_BYTES];
+    paper_survey(survey);
+    put(survey, at, number);
+    told(survey, PAPER_BYTES, words);
+}
+
+void words_checks(void)
+{
+    uint8_t survey[PAPER_BYTES];
+    paper_survey(survey);
+    told(survey, 47, "file of 47 bytes: must have 48 to 65536");
+    told_with(32, 41, "course count 41: must be 1 to 40");
+    told_with(0, 2, "head kind 2: must be 0 (flat) or 1 (half-ellipsoid)");
+    told_with(4, 49999, "dip diameter DH 49999 (499.99 mm): must be 50000 to 500000");
+    told_with(56, 99999, "sum of the course lengths 99999 (999.99 mm): must be the shell length L1, 100000");
+    told_with(60, 5001, "course 1, thickness 5001 (50.01 mm): must be 100 to 5000");
+    check(says(milechime_words(NULL, 0, 1, 0), "file of 0 bytes: must have 48 to 65536"), "no survey at all");
+    check(says(milechime_words(survey, PAPER_BYTES, 8, 0), "lent table: must have a cell for each row"), "a lent table that is too short");
+    check(says(milechime_words(survey, PAPER_BYTES, 5, 6), "refusal 5 at place 6: not one of this survey's"), "a place that no number has");
+    check(says(milechime_words(survey, PAPER_BYTES, UINT32_MAX, UINT32_MAX),
+               "refusal 4294967295 at place 4294967295: not one of this survey's"), "the largest numbers");
+}
