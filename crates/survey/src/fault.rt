@@ -58,7 +58,7 @@ pub fn fault_with(sentence: u32, item: u32, value: u64, low: u32, high: u32) -> 
 }
 
 // A refusal that is not one of this survey's.
-pub fn unknown(number: u32, place: u32) -> Fault
+pub(crate) fn unknown(number: u32, place: u32) -> Fault
     ensures { λ r. ⌜ r ≡ unknown number place ⌝ }
 {
     fault_with(sentence::OF_UNKNOWN, number, place as u64, 0, 0)

@@ -20,7 +20,7 @@ pub fn put_byte(out: &mut [u8], at: usize, b: u8) -> usize
     at + 1
 }
 
-pub fn put_bytes(out: &mut [u8], at: usize, s: &[u8]) -> usize
+pub(crate) fn put_bytes(out: &mut [u8], at: usize, s: &[u8]) -> usize
     ensures { λ r. ⌜ Put at (now (s .entry)) (now (out .entry)) (now (out .exit)) r ⌝ }
 {
     let mut next = at;
@@ -39,7 +39,7 @@ fn put_digit(out: &mut [u8], at: usize, n: u64) -> usize
     put_byte(out, at, b'0' + (n % 10) as u8)
 }
 
-pub fn put_digits(out: &mut [u8], at: usize, n: u64) -> usize
+pub(crate) fn put_digits(out: &mut [u8], at: usize, n: u64) -> usize
     ensures { λ r. ⌜ Put at (digits n) (now (out .entry)) (now (out .exit)) r ⌝ }
 {
     if n < 10 {
@@ -57,7 +57,7 @@ fn put_two_decimals(out: &mut [u8], at: usize, n: u64) -> usize
     put_digit(out, tenth, n)
 }
 
-pub fn put_hundredths(out: &mut [u8], at: usize, n: u64) -> usize
+pub(crate) fn put_hundredths(out: &mut [u8], at: usize, n: u64) -> usize
     ensures { λ r. ⌜ Put at (hundredths n) (now (out .entry)) (now (out .exit)) r ⌝ }
 {
     let whole = put_digits(out, at, n / 100);
@@ -86,7 +86,7 @@ fn put_in_threes(out: &mut [u8], at: usize, commas: u32, n: u64) -> usize
     put_three_digits(out, comma, n)
 }
 
-pub fn put_grouped(out: &mut [u8], at: usize, n: u64) -> usize
+pub(crate) fn put_grouped(out: &mut [u8], at: usize, n: u64) -> usize
     ensures { λ r. ⌜ Put at (grouped n) (now (out .entry)) (now (out .exit)) r ⌝ }
 {
     let whole = put_in_threes(out, at, MOST_COMMAS, n / 100);
@@ -94,7 +94,7 @@ pub fn put_grouped(out: &mut [u8], at: usize, n: u64) -> usize
 }
 
 // The size of a signed number, the least one too.
-pub fn size(z: i64) -> u64
+pub(crate) fn size(z: i64) -> u64
     ensures { λ r. ⌜ r ≡ natAbs z ⌝ }
 {
     if z < 0 {
@@ -103,7 +103,7 @@ pub fn size(z: i64) -> u64
     z as u64
 }
 
-pub fn put_minus(out: &mut [u8], at: usize, z: i64) -> usize
+pub(crate) fn put_minus(out: &mut [u8], at: usize, z: i64) -> usize
     ensures { λ r. ⌜ Put at (minusOf z) (now (out .entry)) (now (out .exit)) r ⌝ }
 {
     if z < 0 {
@@ -112,7 +112,7 @@ pub fn put_minus(out: &mut [u8], at: usize, z: i64) -> usize
     at
 }
 
-pub fn put_sign(out: &mut [u8], at: usize, z: i64) -> usize
+pub(crate) fn put_sign(out: &mut [u8], at: usize, z: i64) -> usize
     ensures { λ r. ⌜ Put at (signOf z) (now (out .entry)) (now (out .exit)) r ⌝ }
 {
     if 0 < z {
