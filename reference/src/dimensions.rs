@@ -16,18 +16,23 @@ pub struct Dimensions {
 /// D1 and D2 of a survey, or refusal 7: "D1 or D2 outside 50,000 to 500,000
 /// or over 10,000 from DH".
 pub fn dimensions(survey: &Survey) -> Result<Dimensions, Refusal> {
-    let wall = wall(&survey.courses);
-    // "D1 is outer minus wall."
-    let d1 = shell_outer_diameter(&survey.courses) - wall;
-    // "D2 (flange and head): ..., minus the same wall".
-    let d2 = end_outer_diameter(survey.left, survey.right) - wall;
     match (
-        accepted_diameter(d1, survey.dh),
-        accepted_diameter(d2, survey.dh),
+        accepted_diameter(d1(survey), survey.dh),
+        accepted_diameter(d2(survey), survey.dh),
     ) {
         (Some(d1), Some(d2)) => Ok(Dimensions { d1, d2 }),
         _ => Err(refuse(7)),
     }
+}
+
+/// "D1 is outer minus wall."
+pub fn d1(survey: &Survey) -> i64 {
+    shell_outer_diameter(&survey.courses) - wall(&survey.courses)
+}
+
+/// "D2 (flange and head): ..., minus the same wall".
+pub fn d2(survey: &Survey) -> i64 {
+    end_outer_diameter(survey.left, survey.right) - wall(&survey.courses)
 }
 
 /// "Outer diameter: nearest of 113·W / (710·ΣL), W the sum over courses of
@@ -59,7 +64,7 @@ pub fn wall(courses: &[Course]) -> i64 {
 }
 
 /// The diameter, if it is inside its limits and at most 10,000 from DH.
-fn accepted_diameter(diameter: i64, dh: u32) -> Option<u32> {
+pub fn accepted_diameter(diameter: i64, dh: u32) -> Option<u32> {
     let low = i64::from(DIAMETER.low);
     let high = i64::from(DIAMETER.high);
     let inside = low <= diameter && diameter <= high;

@@ -2,7 +2,8 @@
 //!
 //! It is written from the scope paper alone and aims at being easy to compare
 //! with that paper, sentence by sentence. Sentences in quotation marks are
-//! taken from the paper.
+//! taken from the paper. What the programs print beside that, and their
+//! sentences for refusals, are those of their users' documents.
 //!
 //! Lengths are whole numbers of u = 0.01 mm, volumes whole numbers of
 //! v = 0.01 L; "One v is 10^10 cubic u".
@@ -12,11 +13,13 @@ pub mod bytes;
 pub mod deadwood;
 pub mod dimensions;
 pub mod generate;
+pub mod given;
 pub mod gross;
 pub mod heights;
 pub mod limits;
 pub mod lookup;
 pub mod numbers;
+pub mod printed;
 pub mod random;
 pub mod refusal;
 pub mod rows;
@@ -26,7 +29,8 @@ pub mod survey;
 pub mod table;
 pub mod text;
 pub mod volumes;
+pub mod words;
 
-pub use lookup::{height_for_volume, litres_at_height};
+pub use lookup::{delivered, height_for_volume, litres_at_height};
 pub use refusal::Refusal;
 pub use table::{fill_table, make_table, Answer, Table};

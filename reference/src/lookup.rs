@@ -30,6 +30,20 @@ pub fn height_for_volume(dh: u32, step: u32, table: &[u32], volume: u32) -> Resu
     Ok(lowest.expect("the litres at DH are the last row, which is at least the volume"))
 }
 
+/// What was delivered between two dip heights: the litres at the height after
+/// less those at the height before. The first refusal of the two, if any.
+pub fn delivered(
+    dh: u32,
+    step: u32,
+    table: &[u32],
+    before: u32,
+    after: u32,
+) -> Result<i64, Refusal> {
+    let litres_before = litres_at_height(dh, step, table, before)?;
+    let litres_after = litres_at_height(dh, step, table, after)?;
+    Ok(i64::from(litres_after) - i64::from(litres_before))
+}
+
 /// Refusal 11: "DH or step outside limits, wrong row count, or a row falls".
 fn check_table(dh: u32, step: u32, table: &[u32]) -> Result<(), Refusal> {
     if !limits::DH.allow(dh) || !limits::STEP.allow(step) {

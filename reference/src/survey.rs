@@ -31,9 +31,37 @@ pub struct Survey {
     pub deadwood: Vec<Deadwood>,
 }
 
+/// A number of the file that has limits of its own: its byte offset, its name
+/// and those limits.
+#[derive(Clone, Copy, Debug, PartialEq, Eq)]
+pub struct Number {
+    pub at: usize,
+    pub name: &'static str,
+    pub limits: Limits,
+}
+
+/// Where the one number stands whose limits depend on another.
+pub const L3_AT: usize = 24;
+
+const fn number(at: usize, name: &'static str, limits: Limits) -> Number {
+    Number { at, name, limits }
+}
+
 /// Reads a file of any bytes and any length, with refusals 1 to 6 "tested in
 /// this order".
 pub fn parse(file: &[u8]) -> Result<Survey, Refusal> {
+    let survey = parse_numbers(file)?;
+
+    // Refusal 6: "course lengths do not add up to L1".
+    if course_lengths(&survey.courses) != u64::from(survey.l1) {
+        return Err(refuse(6));
+    }
+
+    Ok(survey)
+}
+
+/// The same with refusals 1 to 5 alone.
+pub fn parse_numbers(file: &[u8]) -> Result<Survey, Refusal> {
     // Refusal 1: "file under 48 or over 65,536 bytes".
     if file.len() < limits::HEADER_BYTES || file.len() > limits::LARGEST_FILE {
         return Err(refuse(1));
@@ -52,19 +80,12 @@ pub fn parse(file: &[u8]) -> Result<Survey, Refusal> {
         return Err(refuse_at(5, place));
     }
 
-    let survey = read(file, &sections);
+    Ok(read(file, &sections))
+}
 
-    // Refusal 6: "course lengths do not add up to L1".
-    let total: u64 = survey
-        .courses
-        .iter()
-        .map(|course| u64::from(course.length))
-        .sum();
-    if total != u64::from(survey.l1) {
-        return Err(refuse(6));
-    }
-
-    Ok(survey)
+/// The sum of the course lengths.
+pub fn course_lengths(courses: &[Course]) -> u64 {
+    courses.iter().map(|course| u64::from(course.length)).sum()
 }
 
 /// "byte offset of the first, header, courses, deadwood". The order is that
@@ -76,38 +97,37 @@ fn first_bad_number(file: &[u8], sections: &Sections) -> Option<usize> {
         .or_else(|| first_bad_in_deadwood(file, &sections.deadwood))
 }
 
+/// The header's numbers from DH to the step, in their order.
+pub fn header_numbers(kind: u32) -> [Number; 7] {
+    [
+        number(4, "dip diameter DH", limits::DH),
+        number(8, "shell length L1", limits::L1),
+        number(12, "circumference left", limits::CIRCUMFERENCE),
+        number(16, "circumference right", limits::CIRCUMFERENCE),
+        number(20, "flange length L2", limits::L2),
+        number(L3_AT, "head length L3", limits::l3_limits(kind)),
+        number(28, "step", limits::STEP),
+    ]
+}
+
+/// The numbers of the course at a byte offset, in their order.
+pub fn course_numbers(at: usize) -> [Number; 4] {
+    [
+        number(at, "first circumference", limits::CIRCUMFERENCE),
+        number(at + 4, "second circumference", limits::CIRCUMFERENCE),
+        number(at + 8, "length", limits::COURSE_LENGTH),
+        number(at + 12, "thickness", limits::THICKNESS),
+    ]
+}
+
 fn first_bad_in_header(file: &[u8]) -> Option<usize> {
-    let kind = unsigned_at(file, 0);
-    first_outside(
-        file,
-        &[
-            (4, limits::DH),
-            (8, limits::L1),
-            (12, limits::CIRCUMFERENCE),
-            (16, limits::CIRCUMFERENCE),
-            (20, limits::L2),
-            (24, limits::l3_limits(kind)),
-            (28, limits::STEP),
-        ],
-    )
+    first_outside(file, &header_numbers(unsigned_at(file, 0)))
 }
 
 fn first_bad_in_courses(file: &[u8], offsets: &[usize]) -> Option<usize> {
-    for &at in offsets {
-        let bad = first_outside(
-            file,
-            &[
-                (at, limits::CIRCUMFERENCE),
-                (at + 4, limits::CIRCUMFERENCE),
-                (at + 8, limits::COURSE_LENGTH),
-                (at + 12, limits::THICKNESS),
-            ],
-        );
-        if bad.is_some() {
-            return bad;
-        }
-    }
-    None
+    offsets
+        .iter()
+        .find_map(|&at| first_outside(file, &course_numbers(at)))
 }
 
 /// "Low < high ≤ DH; if not, the high number is the bad one. Volume is
@@ -128,14 +148,12 @@ fn first_bad_in_deadwood(file: &[u8], offsets: &[usize]) -> Option<usize> {
     None
 }
 
-/// The first of the listed places whose number is outside its limits.
-fn first_outside(file: &[u8], places: &[(usize, Limits)]) -> Option<usize> {
-    for &(at, limits) in places {
-        if !limits.allow(unsigned_at(file, at)) {
-            return Some(at);
-        }
-    }
-    None
+/// The place of the first of the listed numbers that is outside its limits.
+fn first_outside(file: &[u8], numbers: &[Number]) -> Option<usize> {
+    numbers
+        .iter()
+        .find(|number| !number.limits.allow(unsigned_at(file, number.at)))
+        .map(|number| number.at)
 }
 
 /// Takes the numbers over, once they are known to be inside their limits.

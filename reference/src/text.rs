@@ -1,18 +1,41 @@
-//! What the programs print, and the decimals they read.
-
-use crate::lookup::{height_for_volume, litres_at_height};
-use crate::refusal::Refusal;
-use crate::rows::{row_heights, MOST_ROWS};
-use crate::survey::parse;
-use crate::table::make_table;
+//! The decimals that the programs write and read.
 
 /// A number of u as millimetres, or of v as litres: two decimals.
 pub fn two_decimals(hundredths: u32) -> String {
     format!("{}.{:02}", hundredths / 100, hundredths % 100)
 }
 
-/// The reverse: "12", "12.3" or "12.34" as 1200, 1230 or 1234 hundredths.
-/// Nothing for any other text or a number of more than 32 bits.
+/// A difference of volumes: as above, with `+` or `-` before it unless it
+/// is 0.
+pub fn signed_decimals(hundredths: i64) -> String {
+    let sign = match hundredths.signum() {
+        1 => "+",
+        -1 => "-",
+        _ => "",
+    };
+    let size = hundredths.unsigned_abs();
+    format!("{sign}{}.{:02}", size / 100, size % 100)
+}
+
+/// As in sentences: two decimals, a comma at each thousand, and `-` before a
+/// number below zero.
+pub fn with_commas(hundredths: i64) -> String {
+    let sign = if hundredths < 0 { "-" } else { "" };
+    let size = hundredths.unsigned_abs();
+    let whole = (size / 100).to_string();
+    let mut grouped = String::new();
+    for (index, digit) in whole.chars().enumerate() {
+        if index > 0 && (whole.len() - index).is_multiple_of(3) {
+            grouped.push(',');
+        }
+        grouped.push(digit);
+    }
+    format!("{sign}{grouped}.{:02}", size % 100)
+}
+
+/// The reverse of `two_decimals`: "12", "12.3" or "12.34" as 1200, 1230 or
+/// 1234 hundredths. Nothing for any other text or a number of more than 32
+/// bits.
 pub fn hundredths(text: &str) -> Option<u32> {
     let (whole, decimals) = text.split_once('.').unwrap_or((text, "00"));
     let digits = |part: &str| !part.is_empty() && part.bytes().all(|b| b.is_ascii_digit());
@@ -25,50 +48,4 @@ pub fn hundredths(text: &str) -> Option<u32> {
         part *= 10;
     }
     whole.checked_mul(100)?.checked_add(part)
-}
-
-/// "For a refusal it prints one line: `refused 5 4` is number 5 at place 4."
-pub fn refusal_line(refusal: Refusal) -> String {
-    format!("refused {} {}\n", refusal.number, refusal.place)
-}
-
-/// All that the table program prints for a survey: the row count, then height
-/// and volume of each row; or the line of a refusal.
-pub fn printed_table(survey: &[u8], table_len: usize) -> String {
-    match make_table(survey, table_len) {
-        Err(refusal) => refusal_line(refusal),
-        Ok(table) => {
-            let survey = parse(survey).expect("the survey was accepted");
-            let mut lines = format!("rows {}\n", table.rows.len());
-            for (height, row) in row_heights(survey.dh, survey.step).iter().zip(&table.rows) {
-                lines += &format!("{} {}\n", two_decimals(height.0), two_decimals(*row));
-            }
-            lines
-        }
-    }
-}
-
-/// What is looked up in a survey's table.
-#[derive(Clone, Copy)]
-pub enum Asked {
-    LitresAt(u32),
-    HeightFor(u32),
-}
-
-/// All that the lookup program prints for a survey: the figure, or the line of
-/// a refusal.
-pub fn printed_lookup(survey: &[u8], asked: Asked) -> String {
-    match look_up(survey, asked) {
-        Ok(figure) => format!("{}\n", two_decimals(figure)),
-        Err(refusal) => refusal_line(refusal),
-    }
-}
-
-fn look_up(file: &[u8], asked: Asked) -> Result<u32, Refusal> {
-    let table = make_table(file, MOST_ROWS)?;
-    let survey = parse(file)?;
-    match asked {
-        Asked::LitresAt(height) => litres_at_height(survey.dh, survey.step, &table.rows, height),
-        Asked::HeightFor(volume) => height_for_volume(survey.dh, survey.step, &table.rows, volume),
-    }
 }

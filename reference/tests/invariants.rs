@@ -9,7 +9,7 @@ use reference::numbers::{nearest, root_down, root_up};
 use reference::random::Random;
 use reference::rows::{row_count, row_heights, MOST_ROWS};
 use reference::survey::parse;
-use reference::text::{hundredths, two_decimals};
+use reference::text::{hundredths, signed_decimals, two_decimals, with_commas};
 use reference::volumes::{chord, doubled_area, doubled_areas};
 use reference::{fill_table, make_table};
 
@@ -201,6 +201,25 @@ fn decimals() {
         "", ".", ".5", "1.", "1.234", "-1", "+1", "1e2", "1 ", "1.2.3",
     ] {
         assert_eq!(hundredths(text), None, "{text}");
+    }
+}
+
+#[test]
+fn signs_and_commas() {
+    for (number, signed, commas) in [
+        (0, "0.00", "0.00"),
+        (1, "+0.01", "0.01"),
+        (-1, "-0.01", "-0.01"),
+        (99_999, "+999.99", "999.99"),
+        (100_000, "+1000.00", "1,000.00"),
+        (-100_000, "-1000.00", "-1,000.00"),
+        (99_999_999, "+999999.99", "999,999.99"),
+        (100_000_000, "+1000000.00", "1,000,000.00"),
+        (i64::from(u32::MAX), "+42949672.95", "42,949,672.95"),
+        (i64::from(i32::MIN), "-21474836.48", "-21,474,836.48"),
+    ] {
+        assert_eq!(signed_decimals(number), signed);
+        assert_eq!(with_commas(number), commas);
     }
 }
 

@@ -1,7 +1,7 @@
 //! Lookups: refusals 11 to 13 and the meaning of both answers.
 
 use reference::generate::lookups::{lookup_case, Asked};
-use reference::{height_for_volume, litres_at_height, Refusal};
+use reference::{delivered, height_for_volume, litres_at_height, Refusal};
 
 const TABLE: [u32; 6] = [0, 2_796, 7_334, 12_301, 16_839, 19_635];
 
@@ -80,6 +80,31 @@ fn thirteen() {
     assert_eq!(height(50_000, 10_000, &TABLE, u32::MAX), Err(13));
     // The lowest height: 19,635 is first the nearest v a little below DH.
     assert_eq!(height(50_000, 10_000, &TABLE, 19_635), Ok(49_999));
+}
+
+#[test]
+fn what_was_delivered() {
+    let delivered = |before, after| {
+        delivered(50_000, 10_000, &TABLE, before, after).map_err(|refusal| refusal.number)
+    };
+    assert_eq!(delivered(0, 5_000), Ok(1_398));
+    assert_eq!(delivered(5_000, 0), Ok(-1_398));
+    assert_eq!(delivered(5_000, 5_000), Ok(0));
+    assert_eq!(delivered(0, 50_000), Ok(19_635));
+    assert_eq!(delivered(50_001, 0), Err(12));
+    assert_eq!(delivered(0, 50_001), Err(12));
+    assert_eq!(delivered(u32::MAX, u32::MAX), Err(12));
+}
+
+/// The largest differences either way do not fit 32 bits with a sign.
+#[test]
+fn delivered_of_the_largest_cells() {
+    let table = [0, u32::MAX, u32::MAX, u32::MAX, u32::MAX, u32::MAX];
+    let most = i64::from(u32::MAX);
+    assert_eq!(delivered(50_000, 10_000, &table, 0, 50_000), Ok(most));
+    assert_eq!(delivered(50_000, 10_000, &table, 50_000, 0), Ok(-most));
+    let falling = [0, 1, 2, 3, 2, 4];
+    assert!(delivered(50_000, 10_000, &falling, 0, 0).is_err_and(|refusal| refusal.number == 11));
 }
 
 #[test]

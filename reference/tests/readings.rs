@@ -7,9 +7,9 @@ use reference::deadwood::{share, Deadwood};
 use reference::dimensions::{end_outer_diameter, shell_outer_diameter};
 use reference::heights::{DipHeight, ShellHeight};
 use reference::numbers::{half_down, nearest};
+use reference::printed::Opened;
 use reference::rows::{row_count, row_heights, MOST_ROWS};
 use reference::survey::Course;
-use reference::text::printed_table;
 use reference::volumes::{chord, heads};
 use reference::{height_for_volume, litres_at_height, make_table};
 use std::io::Write;
@@ -87,9 +87,9 @@ fn refusals() {
 
 #[test]
 fn the_printed_table() {
-    assert_eq!(printed_table(&paper_survey(), MOST_ROWS), PRINTED);
+    assert_eq!(Opened::new(&paper_survey()).table().output, PRINTED);
     assert_eq!(
-        printed_table(&paper_survey_but(4, 49_999), MOST_ROWS),
+        Opened::new(&paper_survey_but(4, 49_999)).table().output,
         "refused 5 4\n"
     );
 }

@@ -1,28 +1,37 @@
-//! Reads a survey on standard input, makes its table and looks one figure up.
-//!
-//! `reference_lookup litres MM` prints the litres at a dip height,
-//! `reference_lookup height LITRES` the lowest dip height for a volume.
+//! Makes the table of a survey and looks figures up: the litres at dip heights,
+//! the lowest dip heights for volumes, or the litres delivered.
 
-use reference::text::{hundredths, printed_lookup, Asked};
-use std::io::Read;
+use reference::given::{survey, take_file};
+use reference::printed::{Asked, Opened};
+use reference::text::hundredths;
 
-const USAGE: &str = "usage: reference_lookup litres MM | reference_lookup height LITRES";
+const USAGE: &str = "usage:
+  reference_lookup [-f FILE] litres MM ..
+  reference_lookup [-f FILE] height LITRES ..
+  reference_lookup [-f FILE] delivered BEFORE AFTER";
 
 fn main() {
-    let words: Vec<String> = std::env::args().skip(1).collect();
-    let asked = match words.as_slice() {
-        [what, figure] if what == "litres" => hundredths(figure).map(Asked::LitresAt),
-        [what, figure] if what == "height" => hundredths(figure).map(Asked::HeightFor),
-        _ => None,
-    };
-    let Some(asked) = asked else {
+    let mut words: Vec<String> = std::env::args().skip(1).collect();
+    let file = take_file(&mut words);
+    let Some(asked) = asked(&words) else {
         eprintln!("{USAGE}");
         std::process::exit(2);
     };
+    let survey = survey(file).expect("the survey can be read");
+    let printed = Opened::new(&survey).lookup(&asked);
+    print!("{}", printed.output);
+    eprint!("{}", printed.error);
+}
 
-    let mut survey = Vec::new();
-    std::io::stdin()
-        .read_to_end(&mut survey)
-        .expect("standard input can be read");
-    print!("{}", printed_lookup(&survey, asked));
+/// What the words after `-f FILE` ask for.
+fn asked(words: &[String]) -> Option<Asked> {
+    let (what, figures) = words.split_first()?;
+    let figures: Option<Vec<u32>> = figures.iter().map(|figure| hundredths(figure)).collect();
+    let figures = figures?;
+    match (what.as_str(), figures.as_slice()) {
+        ("litres", [_, ..]) => Some(Asked::LitresAt(figures)),
+        ("height", [_, ..]) => Some(Asked::HeightFor(figures)),
+        ("delivered", &[before, after]) => Some(Asked::Delivered { before, after }),
+        _ => None,
+    }
 }

@@ -1,0 +1,375 @@
+//! Every sentence for a refusal, and what a run prints on either stream.
+
+mod common;
+
+use common::*;
+use reference::printed::{Asked, Opened, Printed};
+use reference::Refusal;
+use std::io::Write;
+use std::process::{Command, Stdio};
+
+/// The sentence for a refused survey.
+fn sentence(survey: &[u8]) -> String {
+    let printed = Opened::new(survey).table();
+    let error = printed.error.strip_suffix('\n');
+    error.expect("the survey is refused").to_string()
+}
+
+#[track_caller]
+fn but(at: usize, word: u32, expected: &str) {
+    assert_eq!(sentence(&paper_survey_but(at, word)), expected);
+}
+
+#[track_caller]
+fn with_deadwood(deadwood: &[(u32, u32, i32)], expected: &str) {
+    assert_eq!(sentence(&paper_survey_with(deadwood)), expected);
+}
+
+#[test]
+fn file_lengths() {
+    let file = paper_survey();
+    assert_eq!(sentence(&[]), "file of 0 bytes: must have 48 to 65536");
+    assert_eq!(
+        sentence(&file[..47]),
+        "file of 47 bytes: must have 48 to 65536"
+    );
+    for length in [65_537, 70_000] {
+        let mut long = file.clone();
+        long.resize(length, 0);
+        assert_eq!(
+            sentence(&long),
+            "file of more than 65536 bytes: must have 48 to 65536"
+        );
+    }
+}
+
+#[test]
+fn counts() {
+    but(32, 0, "course count 0: must be 1 to 40");
+    but(
+        32,
+        4_294_967_295,
+        "course count 4294967295: must be 1 to 40",
+    );
+    but(40, 65, "deadwood count 65: must be 0 to 64");
+    // Both wrong: the first.
+    let mut file = paper_survey_but(40, 65);
+    put(&mut file, 32, 41);
+    assert_eq!(sentence(&file), "course count 41: must be 1 to 40");
+}
+
+#[test]
+fn sections() {
+    let courses = "its 1 records must start at byte 48 or later and end inside the file of";
+    but(
+        36,
+        47,
+        &format!("byte offset of the courses 47: {courses} 64 bytes"),
+    );
+    but(
+        36,
+        49,
+        &format!("byte offset of the courses 49: {courses} 64 bytes"),
+    );
+    but(
+        36,
+        u32::MAX,
+        &format!("byte offset of the courses 4294967295: {courses} 64 bytes"),
+    );
+    assert_eq!(
+        sentence(&paper_survey()[..48]),
+        format!("byte offset of the courses 48: {courses} 48 bytes")
+    );
+
+    let two = paper_survey_with(&[(0, 50_000, 1), (0, 50_000, 1)]);
+    let moved = |offset| {
+        let mut file = two.clone();
+        put(&mut file, 44, offset);
+        sentence(&file)
+    };
+    let deadwood =
+        "its 2 records must start at byte 48 or later and end inside the file of 88 bytes";
+    assert_eq!(
+        moved(65),
+        format!("byte offset of the deadwood 65: {deadwood}")
+    );
+    assert_eq!(
+        moved(24),
+        format!("byte offset of the deadwood 24: {deadwood}")
+    );
+    assert_eq!(
+        moved(63),
+        "byte offset of the deadwood 63: its 2 records must not overlap the courses"
+    );
+    // Inside the header and over the courses: the overlap is told.
+    assert_eq!(
+        moved(25),
+        "byte offset of the deadwood 25: its 2 records must not overlap the courses"
+    );
+    // Both sections outside: the courses are told.
+    let mut both = two.clone();
+    put(&mut both, 36, 0);
+    put(&mut both, 44, 0);
+    assert_eq!(
+        sentence(&both),
+        "byte offset of the courses 0: its 1 records must start at byte 48 or later and end \
+         inside the file of 88 bytes"
+    );
+}
+
+#[test]
+fn head_kinds() {
+    but(0, 2, "head kind 2: must be 0 (flat) or 1 (half-ellipsoid)");
+}
+
+#[test]
+fn header_numbers() {
+    but(
+        4,
+        49_999,
+        "dip diameter DH 49999 (499.99 mm): must be 50000 to 500000",
+    );
+    but(
+        8,
+        3_000_001,
+        "shell length L1 3000001 (30,000.01 mm): must be 100000 to 3000000",
+    );
+    but(
+        12,
+        149_999,
+        "circumference left 149999 (1,499.99 mm): must be 150000 to 1600000",
+    );
+    but(
+        16,
+        1_600_001,
+        "circumference right 1600001 (16,000.01 mm): must be 150000 to 1600000",
+    );
+    but(
+        20,
+        20_001,
+        "flange length L2 20001 (200.01 mm): must be 0 to 20000",
+    );
+    but(
+        24,
+        1,
+        "head length L3 1 (0.01 mm): must be 0 to 0 for this kind of head",
+    );
+    but(
+        0,
+        1,
+        "head length L3 0 (0.00 mm): must be 1 to 260000 for this kind of head",
+    );
+    but(28, 99, "step 99 (0.99 mm): must be 100 to 10000");
+    but(
+        28,
+        u32::MAX,
+        "step 4294967295 (42,949,672.95 mm): must be 100 to 10000",
+    );
+}
+
+#[test]
+fn course_numbers() {
+    but(
+        48,
+        149_999,
+        "course 1, first circumference 149999 (1,499.99 mm): must be 150000 to 1600000",
+    );
+    but(
+        52,
+        0,
+        "course 1, second circumference 0 (0.00 mm): must be 150000 to 1600000",
+    );
+    but(56, 0, "course 1, length 0 (0.00 mm): must be 1 to 3000000");
+    but(
+        60,
+        5_001,
+        "course 1, thickness 5001 (50.01 mm): must be 100 to 5000",
+    );
+
+    // Three courses at an odd offset, the last of them wrong.
+    let mut file = bytes_of(&PAPER_HEADER);
+    put(&mut file, 32, 3);
+    put(&mut file, 36, 49);
+    file.push(7);
+    file.extend(bytes_of(&[160_221, 160_221, 50_000, 500]).repeat(3));
+    put(&mut file, 49 + 2 * 16 + 12, 99);
+    assert_eq!(
+        sentence(&file),
+        "course 3, thickness 99 (0.99 mm): must be 100 to 5000"
+    );
+}
+
+#[test]
+fn deadwood_numbers() {
+    let sound = (0, 50_000, 1);
+    with_deadwood(
+        &[(300, 300, 1)],
+        "deadwood item 1, high height 300 (3.00 mm): must be above its low height and at most DH 50000",
+    );
+    with_deadwood(
+        &[sound, (0, 50_001, 1)],
+        "deadwood item 2, high height 50001 (500.01 mm): must be above its low height and at most DH 50000",
+    );
+    with_deadwood(
+        &[sound, sound, (0, 1, 10_000_001)],
+        "deadwood item 3, volume 10000001 (100,000.01 L): must be -10000000 to 10000000",
+    );
+    with_deadwood(
+        &[(0, 1, -10_000_001)],
+        "deadwood item 1, volume -10000001 (-100,000.01 L): must be -10000000 to 10000000",
+    );
+    with_deadwood(
+        &[(0, 1, i32::MIN)],
+        "deadwood item 1, volume -2147483648 (-21,474,836.48 L): must be -10000000 to 10000000",
+    );
+}
+
+#[test]
+fn lengths() {
+    but(
+        56,
+        99_999,
+        "sum of the course lengths 99999 (999.99 mm): must be the shell length L1, 100000",
+    );
+}
+
+#[test]
+fn diameters() {
+    // DH so far up that D1 and D2, both 50,000, are too far from it: D1 is told.
+    but(4, 60_001, "shell diameter D1 50000 (500.00 mm): must be 50000 to 500000 and at most 10000 from DH 60001");
+    // A larger end alone.
+    but(16, 230_000, "head diameter D2 61106 (611.06 mm): must be 50000 to 500000 and at most 10000 from DH 50000");
+}
+
+#[test]
+fn falling_rows() {
+    with_deadwood(
+        &[(30_000, 40_000, 4_539)],
+        "row 4 at dip height 40000 (400.00 mm): must not be below the row before; \
+         the deadwood is larger than the room there",
+    );
+    // The last row stands at DH, no whole step up.
+    let mut file = paper_survey_with(&[(49_995, 50_000, 10_000)]);
+    put(&mut file, 28, 9_999);
+    assert_eq!(
+        sentence(&file),
+        "row 6 at dip height 50000 (500.00 mm): must not be below the row before; \
+         the deadwood is larger than the room there"
+    );
+}
+
+/// A sentence stands only where the programs can meet the refusal.
+#[test]
+fn no_sentence() {
+    for number in [8, 10, 11] {
+        let refusal = Refusal { number, place: 0 };
+        assert_eq!(reference::words::of_survey(&paper_survey(), refusal), None);
+        assert_eq!(reference::words::of_lookup(0, refusal, 50_000, 0), None);
+    }
+}
+
+const TOO_HIGH: &str = "dip height 50001 (500.01 mm): must be at most DH 50000\n";
+const SHORT: &str = "file of 47 bytes: must have 48 to 65536\n";
+
+fn printed(output: &str, error: &str) -> Printed {
+    Printed {
+        output: output.to_string(),
+        error: error.to_string(),
+    }
+}
+
+#[test]
+fn a_line_for_each_figure() {
+    let survey = paper_survey();
+    let opened = Opened::new(&survey);
+    assert_eq!(
+        opened.lookup(&Asked::LitresAt(vec![5_000, 50_001, 50_000])),
+        printed("13.98\nrefused 12 0\n196.35\n", TOO_HIGH)
+    );
+    assert_eq!(
+        opened.lookup(&Asked::HeightFor(vec![19_636, 1_398, 100_000])),
+        printed(
+            "refused 13 0\n49.99\nrefused 13 0\n",
+            "volume 19636 (196.36 L): must be at most the last row, 19635\n\
+             volume 100000 (1,000.00 L): must be at most the last row, 19635\n"
+        )
+    );
+    // A refused survey is told once, however much is asked.
+    let refused = Opened::new(&survey[..47]);
+    for asked in [
+        Asked::LitresAt(vec![0, 1, 2]),
+        Asked::HeightFor(vec![0, 1]),
+        Asked::Delivered {
+            before: 0,
+            after: 0,
+        },
+    ] {
+        assert_eq!(refused.lookup(&asked), printed("refused 1 0\n", SHORT));
+    }
+}
+
+#[test]
+fn delivered() {
+    let survey = paper_survey();
+    let opened = Opened::new(&survey);
+    for (before, after, output, error) in [
+        (0, 5_000, "+13.98\n", ""),
+        (5_000, 0, "-13.98\n", ""),
+        (5_000, 5_000, "0.00\n", ""),
+        (50_001, 0, "refused 12 0\n", TOO_HIGH),
+        (0, 50_001, "refused 12 0\n", TOO_HIGH),
+        (50_001, 60_000, "refused 12 0\n", TOO_HIGH),
+    ] {
+        assert_eq!(
+            opened.lookup(&Asked::Delivered { before, after }),
+            printed(output, error)
+        );
+    }
+}
+
+#[test]
+fn the_programs() {
+    let table = env!("CARGO_BIN_EXE_reference_table");
+    let lookup = env!("CARGO_BIN_EXE_reference_lookup");
+    let survey = paper_survey();
+    assert_eq!(run(table, &[], &survey).error, "");
+    assert_eq!(
+        run(table, &[], &survey[..47]),
+        printed("refused 1 0\n", SHORT)
+    );
+    assert_eq!(
+        run(lookup, &["litres", "50", "500.01"], &survey),
+        printed("13.98\nrefused 12 0\n", TOO_HIGH)
+    );
+    assert_eq!(
+        run(lookup, &["delivered", "50", "0"], &survey),
+        printed("-13.98\n", "")
+    );
+
+    let path = std::path::Path::new(env!("CARGO_TARGET_TMPDIR")).join("paper.survey");
+    std::fs::write(&path, &survey).unwrap();
+    let path = path.to_str().unwrap();
+    assert_eq!(
+        run(lookup, &["-f", path, "delivered", "0", "50"], &[]),
+        printed("+13.98\n", "")
+    );
+    assert_eq!(run(table, &["-f", path], &[]), run(table, &[], &survey));
+}
+
+/// What a program prints for a survey on its standard input.
+fn run(program: &str, words: &[&str], survey: &[u8]) -> Printed {
+    let mut child = Command::new(program)
+        .args(words)
+        .stdin(Stdio::piped())
+        .stdout(Stdio::piped())
+        .stderr(Stdio::piped())
+        .spawn()
+        .unwrap();
+    child.stdin.take().unwrap().write_all(survey).unwrap();
+    let output = child.wait_with_output().unwrap();
+    assert!(output.status.success());
+    printed(
+        &String::from_utf8(output.stdout).unwrap(),
+        &String::from_utf8(output.stderr).unwrap(),
+    )
+}
