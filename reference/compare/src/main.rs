@@ -1,24 +1,28 @@
 //! Runs the proved library and the reference over the same generated cases and
 //! compares every number of every answer, every cell of every lent table, and
-//! what both programs print.
+//! what both programs print on standard output and on standard error.
 //!
 //! `compare TANKTABLE TANKLOOKUP FOLDER`: the paths of the programs, and a
-//! folder for the surveys on which the two differ. Ends with 1 if they differ
-//! anywhere, or if a refusal that can occur was seen too seldom.
+//! folder for the survey given by `-f` and those on which the two differ. Ends
+//! with 1 if they differ anywhere, or if a refusal or a sentence that can occur
+//! was seen too seldom.
 
 mod lookups;
 mod printed;
 mod seen;
 mod surveys;
 
-use printed::Programs;
+use printed::{Comparison, Programs};
 use seen::Seen;
 use std::path::PathBuf;
 
 /// How many cases there are of each seed.
 const SURVEYS: u64 = 6_000;
 const LOOKUPS: u64 = 10_000;
-const PRINTED: u64 = 400;
+const PRINTED: u64 = 8_000;
+
+/// How many of the accepted surveys are printed.
+const PRINTED_ACCEPTED: u64 = 500;
 
 const SURVEY_SEEDS: [u64; 4] = [1, 2, 3, 4];
 const LOOKUP_SEEDS: [u64; 4] = [11, 12, 13, 14];
@@ -50,10 +54,9 @@ fn main() {
     }
     often_enough &= lookups_seen.print("lookups");
 
-    mismatches += printed::compare(PRINTED_SEED, PRINTED, &programs, &folder);
-    println!(
-        "surveys of which the printed table and both printed lookups were compared: {PRINTED}"
-    );
+    let mut printed = Comparison::new(programs, &folder);
+    mismatches += printed.compare(PRINTED_SEED, PRINTED, PRINTED_ACCEPTED);
+    often_enough &= printed.print();
 
     println!("mismatches: {mismatches}");
     if mismatches != 0 || !often_enough {

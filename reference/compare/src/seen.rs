@@ -1,7 +1,6 @@
-//! How often each refusal was seen.
+//! How often each refusal and each of the sentences was seen.
 
 use std::collections::BTreeMap;
-use std::ops::RangeInclusive;
 
 /// Refusal 10 cannot come out of a survey: row 0 is never below zero, and a
 /// row below the row before is refusal 9.
@@ -18,10 +17,11 @@ pub struct Seen {
 
 impl Seen {
     /// None yet, for a call that can give these refusals.
-    pub fn new(refusals: RangeInclusive<u32>) -> Seen {
-        let mut counts: BTreeMap<u32, u64> = refusals.map(|refusal| (refusal, 0)).collect();
-        counts.insert(0, 0);
-        Seen { counts }
+    pub fn new(refusals: impl IntoIterator<Item = u32>) -> Seen {
+        let refusals = refusals.into_iter().chain([0]);
+        Seen {
+            counts: refusals.map(|refusal| (refusal, 0)).collect(),
+        }
     }
 
     pub fn add(&mut self, refusal: u32) {
@@ -47,4 +47,51 @@ impl Seen {
         }
         often_enough
     }
+}
+
+/// How many sentences there are: two for refusal 1, two for 2, three for 3,
+/// thirteen for 5, two for 7, one for each of 4, 6, 9, 12 and 13.
+const SENTENCES: usize = 27;
+
+/// The sentences on standard error, each with its numbers left out.
+#[derive(Default)]
+pub struct Sentences {
+    counts: BTreeMap<String, u64>,
+}
+
+impl Sentences {
+    /// Counts every line of a standard error.
+    pub fn add(&mut self, error: &str) {
+        for line in error.lines() {
+            *self.counts.entry(without_numbers(line)).or_default() += 1;
+        }
+    }
+
+    /// Prints how many there are and the one seen least, and says whether all
+    /// were seen often enough.
+    pub fn print(&self) -> bool {
+        let seen = self.counts.len();
+        println!("sentences for refusals: {seen} of {SENTENCES} seen");
+        if let Some((sentence, &least)) = self.counts.iter().min_by_key(|(_, &count)| count) {
+            let too_few = if least < ENOUGH { ", TOO FEW" } else { "" };
+            println!("  least often, {least} times{too_few}: {sentence}");
+            seen == SENTENCES && least >= ENOUGH
+        } else {
+            false
+        }
+    }
+}
+
+/// A line without the numbers that surveys bring into it, so that two lines of
+/// one kind are alike. A digit of a name stays, as in D1 and D2.
+fn without_numbers(line: &str) -> String {
+    let words = line.split(' ').map(|word| {
+        let inner = word.trim_start_matches(['(', '-']);
+        match inner.starts_with(|first: char| first.is_ascii_digit()) {
+            true if word.starts_with('(') => "(_",
+            true => "_",
+            false => word,
+        }
+    });
+    words.collect::<Vec<_>>().join(" ")
 }
