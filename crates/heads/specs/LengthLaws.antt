@@ -4,7 +4,7 @@ use mathlib.Core.Path.{_≡_}
 use mathlib.Core.Bool.{true}
 use native.Mathlib.Omega.{arith}
 use lib.Dec.{leb}
-use borrow.Author.Tests.{leb-true, eqb-true}
+use borrow.Author.Tests.{leb-true}
 use Rattle.laws.specs.BoolLaws.{both-pass}
 use Rattle.heads.specs.declared.kind.HeadKind.{HeadKind}
 use Rattle.heads.specs.declared.kind.HeadKind.the-variants.{Flat, HalfEllipsoid}
@@ -12,5 +12,5 @@ use Rattle.heads.specs.Length.{longest, lengthFits}
 
 pub length-at-most : (kind : HeadKind) (l : ℕ) → lengthFits kind l ≡ true → l ≤ longest
 unfolding lengthFits
-length-at-most Flat l fits = omega (arith, eqb-true l 0 fits)
+length-at-most Flat l fits = omega (arith, leb-true l 0 (both-pass (leb 0 l) (leb l 0) fits .1))
 length-at-most HalfEllipsoid l fits = leb-true l longest (both-pass (leb 1 l) (leb l longest) fits .1)

@@ -4,7 +4,7 @@ ghost use mathlib.Core.Path.{_≡_};
 ghost use Rattle.survey_lookup.specs.Answer.{litresIn, heightIn, deliveredIn};
 ghost use Rattle.survey_lookup.specs.Tabled.{lastRow};
 ghost use Rattle.text.specs.Put.{Says};
-ghost use Rattle.text.specs.SizeLaws.{lineSize};
+ghost use Rattle.text.specs.Lines.{lineSize};
 ghost use Rattle.wording.specs.Sentences.{faultSize};
 ghost use Rattle.report.specs.Report.{askedFault, litresText, litresWords, heightText, heightWords, higher, deliveredText, deliveredWords};
 use crate::LINE_SIZE;

@@ -1,6 +1,6 @@
 // A refusal: its line, and what it is about in words.
 ghost use Rattle.text.specs.Put.{Says};
-ghost use Rattle.text.specs.SizeLaws.{lineSize};
+ghost use Rattle.text.specs.Lines.{lineSize};
 ghost use Rattle.wording.specs.Sentences.{faultSize, faultLine};
 ghost use Rattle.report.specs.Report.{refusedText};
 use crate::Said;

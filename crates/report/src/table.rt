@@ -6,7 +6,7 @@ ghost use Rattle.schedule.specs.Rows.{smallestStep, rowCount, mostRows};
 ghost use Rattle.survey.specs.Survey.{decoded};
 ghost use Rattle.survey_lookup.specs.Tabled.{tabled};
 ghost use Rattle.text.specs.Put.{Put, Says};
-ghost use Rattle.text.specs.SizeLaws.{rowSize};
+ghost use Rattle.text.specs.Lines.{rowSize};
 ghost use Rattle.wording.specs.Sentences.{faultSize};
 ghost use Rattle.report.specs.Report.{outSize, rowsText, tableText, verdictWords};
 use crate::ERR_SIZE;

@@ -1,5 +1,4 @@
 // Standard input, a named file and standard output, whose failures are told on standard error: whose they are, and errno's text.
-ghost use Prim.Native.Nat.{_≤_};
 ghost use mathlib.Core.Path.{_≡_};
 ghost use lib.ListN.{length};
 ghost use Rattle.io.specs.Counts.{Counts};

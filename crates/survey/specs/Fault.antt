@@ -13,9 +13,8 @@ use Rattle.refusal.specs.declared.Verdict.{Verdict}
 use Rattle.refusal.specs.declared.Verdict.the-variants.{Passed, Refused}
 use Rattle.refusal.specs.Test.{verdict, within}
 use Rattle.heads.specs.declared.kind.HeadKind.{HeadKind}
-use Rattle.heads.specs.declared.kind.HeadKind.the-variants.{Flat, HalfEllipsoid}
 use Rattle.heads.specs.Kind.{kindOf}
-use Rattle.heads.specs.Length.{longest}
+use Rattle.heads.specs.Length.{shortestOf, longestOf}
 use Rattle.tank.specs.Limits.{longestShell, longestFlange}
 use Rattle.deadwood.specs.Item.{mostItems, largestVolume}
 use Rattle.survey.specs.declared.fault.Fault.{Fault}
@@ -57,8 +56,7 @@ circumference = limits shortestCircumference longestCircumference
 
 -- of one head's length, by its kind
 abbrev pub lengthLimits : HeadKind → Limits
-lengthLimits Flat = limits 0 0
-lengthLimits HalfEllipsoid = limits 1 longest
+lengthLimits kind = limits (shortestOf kind) (longestOf kind)
 
 -- of a section's byte offset: behind the header and inside the file; of a file past the largest that one's size is named
 abbrev pub offsetLimits : Format → List ℕ → Limits

@@ -6,17 +6,15 @@ use mathlib.Core.Bool.{Bool, true, false, _||_}
 use mathlib.Core.List.{List, [], _∷_, map, List·Memᴰ, List·Memᴰ·head, List·Memᴰ·tail}
 use native.Mathlib.Nat.{mul-le-mul-left, div-eq-of-lt-le, div-add-mod'}
 use native.Mathlib.Omega.{arith}
-use borrow.Author.Tests.{ltb-true, leb-true, eqb-true, lt-ltb, le-ltb, le-leb, lt-leb, eq-eqb, ne-eqb}
+use borrow.Author.Tests.{ltb-true, leb-true, eqb-true, lt-ltb, le-ltb, le-leb, eq-eqb}
 use lib.Dec.{leb, ltb, eqb}
 use lib.IntN.{natAbs}
 use lib.ListN.{length}
 use Rattle.laws.specs.BoolLaws.{by-test, both-pass}
-use Rattle.laws.specs.OrderLaws.{by-order}
 use Rattle.refusal.specs.declared.Verdict.the-variants.{Passed}
 use Rattle.refusal.specs.Test.{test, verdict, within}
 use Rattle.refusal.specs.TestLaws.{passed-pick, passed-append}
 use Rattle.heads.specs.declared.kind.HeadKind.{HeadKind}
-use Rattle.heads.specs.declared.kind.HeadKind.the-variants.{Flat, HalfEllipsoid}
 use Rattle.heads.specs.Kind.{kindKnown, kindOf}
 use Rattle.heads.specs.Length.{lengthFits}
 use Rattle.survey.specs.declared.fault.Fault.{Fault}
@@ -156,11 +154,7 @@ withinNamed f s at = let r = faultAs f s 5 at in within (natAbs (r .low)) (word 
 
 pub length-within : (kind : HeadKind) (l : ℕ) → lengthFits kind l ≡ within (lengthLimits kind .low) l (lengthLimits kind .high)
 unfolding lengthFits
-length-within Flat l =
-    by-order l 0
-    (λ none. rw (eq-eqb l 0 (omega arith), le-leb 0 l (omega arith), le-leb l 0 none))
-    (λ some. rw (ne-eqb l 0 (λ e. omega arith), le-leb 0 l (omega arith), lt-leb l 0 some))
-length-within HalfEllipsoid l = refl
+length-within kind l = refl
 
 module _ (f : Format) (s : List ℕ) (readable : Readable f) (header : f .header ≤ length s) where
   header-named : (w : ℕ) → 4 * w + 4 ≤ headerEnd

@@ -32,7 +32,8 @@ use crate::word::word;
 use deadwood::item::LARGEST_VOLUME;
 use deadwood::item::MOST_ITEMS;
 use heads::kind::HeadKind;
-use heads::length::LONGEST;
+use heads::length::longest_of;
+use heads::length::shortest_of;
 use measure::diameter::Diameter;
 use schedule::LARGEST_STEP;
 use schedule::SMALLEST_STEP;
@@ -55,10 +56,7 @@ fn between(low: u32, high: u32) -> Limits
 fn length_limits(kind: HeadKind) -> Limits
     ensures { λ r. ⌜ r ≡ lengthLimits kind ⌝ }
 {
-    match kind {
-        HeadKind::Flat => between(0, 0),
-        HeadKind::HalfEllipsoid => between(1, LONGEST),
-    }
+    between(shortest_of(kind), longest_of(kind))
 }
 
 // Of a section's byte offset: of a file past the largest that one's size is named.

@@ -20,3 +20,11 @@ figureLine n = hundredths n ++ ascii "\n"
 -- a difference, with its sign
 unfoldable pub signedLine : ℤ → List ℕ
 signedLine z = signOf z ++ hundredths (natAbs z) ++ ascii "\n"
+
+-- room for each of these lines, and for the line of a row (SizeLaws)
+
+abbrev pub lineSize : ℕ
+lineSize = 32
+
+abbrev pub rowSize : ℕ
+rowSize = 24

@@ -13,18 +13,11 @@ use Rattle.laws.specs.Order.{pick}
 use Rattle.laws.specs.BoolLaws.{by-test}
 use Rattle.laws.specs.SignedLaws.{natAbs-at-most}
 use Rattle.text.specs.declared.sentence.Blanks.{Blanks}
-use Rattle.text.specs.Digits.{digits}
 use Rattle.text.specs.DigitsLaws.{digits-at-most, hundredths-at-most, digits-of-64, hundredths-of-64, grouped-of-64, sign-at-most}
-use Rattle.text.specs.Lines.{rowsLine, rowLine, refusedLine, figureLine, signedLine}
+use Rattle.text.specs.Lines.{rowsLine, rowLine, refusedLine, figureLine, signedLine, lineSize, rowSize}
 use Rattle.text.specs.Sentence.{behindLines, firstLine, signedDigits, signedGrouped, filledIn, filled, sentence}
 
 -- the lines, of numbers of 32 bits, and of 64 where they have a sign
-
-abbrev pub lineSize : ℕ
-lineSize = 32
-
-abbrev pub rowSize : ℕ
-rowSize = 24
 
 pub rows-line-size : (n : ℕ) → n < 2 ^ 32 → length (rowsLine n) ≤ lineSize
 unfolding rowsLine

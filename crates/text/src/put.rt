@@ -1,7 +1,7 @@
 // Text put into lent memory at a place, piece by piece, as much of it as there is room for. Each function gives the place behind what it
 // put there.
 ghost use mathlib.Core.Path.{_≡_};
-ghost use mathlib.Core.List.{[], _∷_, _++_};
+ghost use mathlib.Core.List.{[], _∷_};
 ghost use Prim.Native.Nat.{_%_};
 ghost use lib.IntN.{natAbs};
 ghost use Rattle.text.specs.Digits.{digitOf, digits, twoDecimals, hundredths, threeDigits, inThrees, grouped, minusOf, signOf};

@@ -1,3 +1,4 @@
--- What a refusal is about, in words, and how long that can be.
+-- What a refusal is about, in words, how long that can be, and worked examples.
 pub mod Sentences
 pub mod SizeLaws
+pub mod ExampleLaws

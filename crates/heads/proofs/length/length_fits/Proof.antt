@@ -7,15 +7,11 @@ use Rattle.heads.proofs.length.length_fits.Tie as tie
 
 returns : tie.Need-returns
 unfolding lengthFits
-returns c = rw (c .enum-told .given .1)
+returns c = rw (← c .before .before .shortest-of .ensures, le-leb _ _ (c .before .if1 .taken), ← c .longest-of .ensures)
 
 returns-2 : tie.Need-returns-2
 unfolding lengthFits
-returns-2 c = rw (c .before .enum-told2 .given .1, le-leb _ _ (c .if1 .taken))
-
-returns-3 : tie.Need-returns-3
-unfolding lengthFits
-returns-3 c = rw (c .before .enum-told2 .given .1, lt-leb _ _ (c .if1 .left))
+returns-2 c = rw (← c .before .shortest-of .ensures, lt-leb _ _ (c .if1 .left))
 
 pub length-fits-spec : {M : Type 1} → statement M
-length-fits-spec = tie.close (tie.spec (λ c. search needs) (λ c. search needs) returns returns-2 returns-3)
+length-fits-spec = tie.close (tie.spec (λ c κs. search needs) (λ c κs. search needs) returns returns-2)

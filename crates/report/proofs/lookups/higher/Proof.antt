@@ -1,5 +1,4 @@
 -- `report::lookups::higher` meets its contract: by the test. Assumes nothing.
-use borrow.Author.Needs.{needs}
 use borrow.Author.Tests.{le-ltb, lt-ltb}
 use Rattle.report.proofs.lookups.higher.Statement.{statement}
 use Rattle.report.proofs.lookups.higher.Tie as tie

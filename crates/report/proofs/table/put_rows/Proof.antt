@@ -6,7 +6,7 @@ use native.Mathlib.Numerals.{add-one}
 use native.Mathlib.Omega.{arith}
 use lib.ListN.{length, length-append}
 use Rattle.text.specs.Put.{Put}
-use Rattle.text.specs.SizeLaws.{rowSize}
+use Rattle.text.specs.Lines.{rowSize}
 use Rattle.text.specs.PutLaws.{put-nothing, put-both, put-length}
 use Rattle.report.specs.Report.{rowsText}
 use Rattle.report.proofs.table.put_rows.Statement.{statement}
