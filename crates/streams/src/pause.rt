@@ -2,7 +2,7 @@
 use libc::types::timespec;
 
 // Ten milliseconds, or less if a signal comes.
-pub fn pause() {
+pub(crate) fn pause() {
     let asked = timespec {
         tv_sec: 0,
         tv_nsec: 10_000_000,
