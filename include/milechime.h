@@ -47,7 +47,8 @@ extern "C" {
  *       the survey, or overlap                                   0
  *   4   the head kind is not 0 (flat) or 1 (half-ellipsoid)      0
  *   5   another number of the survey is outside its limits       its byte offset
- *   6   the course lengths do not add up to the shell length     0
+ *   6   the sum of the course lengths and the shell length L1
+ *       differ, either way, by more than 100 for each course     0
  *   7   a diameter, D1 or D2, is outside 50,000 to 500,000 or
  *       more than 10,000 away from DH                            0
  *   8   the lent table is shorter than the row count             0

@@ -44,6 +44,11 @@ def survey(*, kind=0, dh=50_000, l1=100_000, left=160_221, right=160_221, l2=0, 
     return head + b"".join(struct.pack("<4I", *c) for c in courses) + b"".join(struct.pack("<2Ii", *d) for d in deadwood)
 
 
+def long_by(lengths):
+    """The six rows' tank with courses of these lengths."""
+    return survey(courses=[(160_221, 160_221, length, 500) for length in lengths])
+
+
 def largest():
     """A table of the most rows, 5,001."""
     return survey(kind=1, dh=500_000, l1=3_000_000, left=1_573_939, right=1_573_939, l2=20_000, l3=250_000, step=100,
@@ -206,7 +211,16 @@ def refusals():
          "deadwood item 3, volume -10000001 (-100,000.01 L): must be -10000000 to 10000000"),
         (survey(deadwood=[(0, 1, 2_147_483_647)]), 5, 72, "deadwood item 1, volume 2147483647 (21,474,836.47 L): must be -10000000 to 10000000"),
         (survey(deadwood=[(0, 1, -2_147_483_648)]), 5, 72, "deadwood item 1, volume -2147483648 (-21,474,836.48 L): must be -10000000 to 10000000"),
-        (survey(courses=four[:3]), 6, 0, "sum of the course lengths 75000 (750.00 mm): must be the shell length L1, 100000"),
+        (survey(courses=four[:3]), 6, 0,
+         "sum of the course lengths 75000 (750.00 mm): must be 99700 to 100300, the shell length L1 give or take 100 for each course"),
+        (long_by([99_899]), 6, 0,
+         "sum of the course lengths 99899 (998.99 mm): must be 99900 to 100100, the shell length L1 give or take 100 for each course"),
+        (long_by([50_000, 50_201]), 6, 0,
+         "sum of the course lengths 100201 (1,002.01 mm): must be 99800 to 100200, the shell length L1 give or take 100 for each course"),
+        (long_by([2_500] * 39 + [6_501]), 6, 0,
+         "sum of the course lengths 104001 (1,040.01 mm): must be 96000 to 104000, the shell length L1 give or take 100 for each course"),
+        (survey(l1=3_000_000), 6, 0,
+         "sum of the course lengths 100000 (1,000.00 mm): must be 2999900 to 3000100, the shell length L1 give or take 100 for each course"),
         (survey(courses=[(200_000, 200_000, 100_000, 500)]), 7, 0,
          "shell diameter D1 62662 (626.62 mm): must be 50000 to 500000 and at most 10000 from DH 50000"),
         (survey(left=157_000, right=157_000), 7, 0, "head diameter D2 48975 (489.75 mm): must be 50000 to 500000 and at most 10000 from DH 50000"),
@@ -222,7 +236,15 @@ def refusals():
     same("refusal 13", ("refused 13 0\n", "volume 19636 (196.36 L): must be at most the last row, 19635\n"), run(LOOKUP, "height", "196.36"))
 
 
-for part in (outputs, inputs, words, figures, refusals):
+def courses():
+    """Courses that miss L1 by 1.00 mm each and no more: D1 goes by their own lengths, and the shell is L1 long, so the table is the same."""
+    table = run(TABLE)
+    for lengths in [99_900], [100_100], [50_000, 49_800], [60_000, 30_000, 10_200], [1, 99_999], [2_500] * 39 + [6_500], [2_500] * 39 + [1]:
+        missed = sum(lengths) - 100_000
+        same(f"courses that miss by {missed}, {len(lengths)} of them", table, run(TABLE, survey=long_by(lengths)))
+
+
+for part in (outputs, inputs, words, figures, refusals, courses):
     before = checks
     part()
     print(f"{part.__name__}: {checks - before} checks")

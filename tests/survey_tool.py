@@ -78,7 +78,7 @@ def examples(folder: Path) -> None:
             shutil.copy(file, to)
         return to
 
-    check("six surveys and five TOML files", (6, 5), (len(list(EXAMPLES.glob("*.survey"))), len(list(EXAMPLES.glob("*.toml")))))
+    check("seven surveys and six TOML files", (7, 6), (len(list(EXAMPLES.glob("*.survey"))), len(list(EXAMPLES.glob("*.toml")))))
     check("the examples agree both ways", [], disagreements(copy("as they are")))
     changed = copy("a byte changed")
     data = bytearray((changed / "falling_row.survey").read_bytes())

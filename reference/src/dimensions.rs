@@ -36,7 +36,8 @@ pub fn d2(survey: &Survey) -> i64 {
 }
 
 /// "Outer diameter: nearest of 113·W / (710·ΣL), W the sum over courses of
-/// (first + second circumference)·length".
+/// (first + second circumference)·length". "Weights stay each course's length
+/// over the sum of lengths", which need not be L1.
 pub fn shell_outer_diameter(courses: &[Course]) -> i64 {
     let mut w: u128 = 0;
     let mut lengths: u128 = 0;

@@ -8,6 +8,7 @@
 pub mod damage;
 pub mod diameters;
 pub mod falling;
+pub mod lengths;
 pub mod lookups;
 pub mod plan;
 pub mod sound;
@@ -57,12 +58,12 @@ fn any_plan(random: &mut Random) -> Plan {
     }
 }
 
-/// Half of the plans stay whole; a few get more than one damage, to try the
-/// order of refusals.
+/// Nearly half of the plans stay whole; a few get more than one damage, to try
+/// the order of refusals.
 fn damage_count(random: &mut Random) -> u32 {
     match random.between(1, 20) {
-        1..=10 => 0,
-        11..=17 => 1,
+        1..=9 => 0,
+        10..=17 => 1,
         18..=19 => 2,
         _ => 3,
     }

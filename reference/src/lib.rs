@@ -1,9 +1,10 @@
 //! A second, independent program for dip tables of level, round tanks.
 //!
-//! It is written from the scope paper alone and aims at being easy to compare
-//! with that paper, sentence by sentence. Sentences in quotation marks are
-//! taken from the paper. What the programs print beside that, and their
-//! sentences for refusals, are those of their users' documents.
+//! It is written from the scope paper and request E1 of the paper on later
+//! changes alone, and aims at being easy to compare with them, sentence by
+//! sentence. Sentences in quotation marks are taken from the papers. What the
+//! programs print beside that, and their sentences for refusals, are those of
+//! their users' documents.
 //!
 //! Lengths are whole numbers of u = 0.01 mm, volumes whole numbers of
 //! v = 0.01 L; "One v is 10^10 cubic u".
@@ -18,6 +19,7 @@ pub mod gross;
 pub mod heights;
 pub mod limits;
 pub mod lookup;
+pub mod misses;
 pub mod numbers;
 pub mod printed;
 pub mod random;

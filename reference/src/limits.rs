@@ -1,4 +1,5 @@
-//! The limits in the paper's tables under "The survey file".
+//! The limits in the paper's tables under "The survey file", and the allowance
+//! of request E1.
 
 /// "A header of 48 bytes".
 pub const HEADER_BYTES: usize = 48;
@@ -40,6 +41,9 @@ pub const STEP: Limits = limits(100, 10_000);
 
 pub const COURSE_LENGTH: Limits = limits(1, 3_000_000);
 pub const THICKNESS: Limits = limits(100, 5_000);
+
+/// Request E1: "Accept a difference of at most 100 u for each course."
+pub const ALLOWANCE_FOR_A_COURSE: u32 = 100;
 
 /// "Volume is -10,000,000 to 10,000,000 v".
 pub const DEADWOOD_VOLUME: i32 = 10_000_000;

@@ -52,8 +52,9 @@ const fn number(at: usize, name: &'static str, limits: Limits) -> Number {
 pub fn parse(file: &[u8]) -> Result<Survey, Refusal> {
     let survey = parse_numbers(file)?;
 
-    // Refusal 6: "course lengths do not add up to L1".
-    if course_lengths(&survey.courses) != u64::from(survey.l1) {
+    // Refusal 6: "course lengths do not add up to L1", by request E1 "only
+    // beyond the allowance".
+    if !accepted_sums(&survey).allow(sum_of_lengths(&survey.courses)) {
         return Err(refuse(6));
     }
 
@@ -83,9 +84,26 @@ pub fn parse_numbers(file: &[u8]) -> Result<Survey, Refusal> {
     Ok(read(file, &sections))
 }
 
-/// The sum of the course lengths.
-pub fn course_lengths(courses: &[Course]) -> u64 {
-    courses.iter().map(|course| u64::from(course.length)).sum()
+/// The sum of the course lengths, at most 40 times 3,000,000. It weights the
+/// courses; the shell's length is L1 alone.
+pub fn sum_of_lengths(courses: &[Course]) -> u32 {
+    courses.iter().map(|course| course.length).sum()
+}
+
+/// The sums of the course lengths that are near enough to L1: "a difference of
+/// at most 100 u for each course", short or long.
+pub fn accepted_sums(survey: &Survey) -> Limits {
+    let allowance = length_allowance(&survey.courses);
+    Limits {
+        low: survey.l1 - allowance,
+        high: survey.l1 + allowance,
+    }
+}
+
+/// How far the sum of the course lengths may be from L1. With 40 courses it is
+/// 4,000, far less than the smallest L1.
+pub fn length_allowance(courses: &[Course]) -> u32 {
+    limits::ALLOWANCE_FOR_A_COURSE * courses.len() as u32
 }
 
 /// "byte offset of the first, header, courses, deadwood". The order is that

@@ -10,7 +10,8 @@ use crate::refusal::Refusal;
 use crate::rows::row_heights;
 use crate::sections::{self, Section};
 use crate::survey::{
-    course_lengths, course_numbers, header_numbers, parse, parse_numbers, Number, L3_AT,
+    accepted_sums, course_numbers, header_numbers, parse, parse_numbers, sum_of_lengths, Number,
+    L3_AT,
 };
 use crate::text::with_commas;
 
@@ -160,10 +161,11 @@ fn at_place(numbers: &[Number], place: usize) -> Option<Number> {
 /// Refusal 6.
 fn bad_lengths(file: &[u8]) -> Option<String> {
     let survey = parse_numbers(file).ok()?;
+    let sum = length(sum_of_lengths(&survey.courses));
     Some(format!(
-        "sum of the course lengths {}: must be the shell length L1, {}",
-        length(course_lengths(&survey.courses) as i64),
-        survey.l1
+        "{}, the shell length L1 give or take {} for each course",
+        outside("sum of the course lengths", &sum, accepted_sums(&survey)),
+        limits::ALLOWANCE_FOR_A_COURSE
     ))
 }
 

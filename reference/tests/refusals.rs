@@ -230,9 +230,17 @@ fn five_header_then_courses_then_deadwood() {
 
 #[test]
 fn six_course_lengths() {
-    assert_eq!(refused(&paper_survey_but(56, 100_001)), (6, 0));
-    assert_eq!(refused(&paper_survey_but(56, 99_999)), (6, 0));
-    assert_eq!(refused(&paper_survey_but(8, 100_001)), (6, 0));
+    // Request E1: at most 100 u from L1 for each course, here one.
+    for (at, number, wanted) in [
+        (56, 99_899, (6, 0)),
+        (56, 99_900, (0, 0)),
+        (56, 100_100, (0, 0)),
+        (56, 100_101, (6, 0)),
+        (8, 100_100, (0, 0)),
+        (8, 100_101, (6, 0)),
+    ] {
+        assert_eq!(refused(&paper_survey_but(at, number)), wanted);
+    }
     // A single course may be as long as the longest shell.
     let mut file = paper_survey_but(8, 3_000_000);
     put(&mut file, 56, 3_000_000);
@@ -341,7 +349,7 @@ fn tested_in_this_order() {
     put(&mut file, 36, 0);
     put(&mut file, 0, 2);
     put(&mut file, 28, 1);
-    put(&mut file, 56, 99_999);
+    put(&mut file, 56, 99_899);
     put(&mut file, 60, 5_000);
     let lent = 5;
     assert_eq!(outcome(&file, lent), (1, 0));

@@ -9,7 +9,7 @@ use reference::make_table;
 use reference::random::Random;
 use reference::rows::row_heights;
 use reference::slabs::{condition_holds, tolerance, Counts, Slabs};
-use reference::survey::{parse, Course, Survey};
+use reference::survey::{parse, sum_of_lengths, Course, Survey};
 use reference::volumes::CUBIC_U_IN_V;
 
 const BOTH: [Slabs; 2] = [Slabs::Fitting, Slabs::Covering];
@@ -33,6 +33,7 @@ fn counts(random: &mut Random) -> Counts {
 fn condition_three_on_generated_surveys() {
     let mut random = Random::new(3);
     let mut surveys = 0;
+    let mut missing_l1 = 0;
     let mut number = 0;
     while surveys < 400 {
         let case = sound_case(3, number);
@@ -45,6 +46,7 @@ fn condition_three_on_generated_surveys() {
             continue;
         }
         surveys += 1;
+        missing_l1 += u32::from(sum_of_lengths(&survey.courses) != survey.l1);
         let dimensions = dimensions(&survey).unwrap();
         let tank = Tank::new(&survey, dimensions);
         for height in row_heights(survey.dh, survey.step) {
@@ -58,6 +60,7 @@ fn condition_three_on_generated_surveys() {
             }
         }
     }
+    assert!(missing_l1 > 100, "{missing_l1}");
 }
 
 /// A tank of these sizes; its diameters are given beside it.
@@ -173,6 +176,38 @@ fn one_slab_by_hand() {
         .bottom
         .times(&Big::product(&[50_000, 100_000, 25_000]));
     assert_eq!(covering.top, by_hand);
+}
+
+/// The same tank with a course that misses L1: the shell's length, in the slabs
+/// and in the film, is L1 and not that of the course.
+#[test]
+fn slabs_and_film_go_by_l1() {
+    for length in [99_900, 100_100] {
+        let mut survey = tank_of(0, 50_000, 100_000, 0, 0);
+        survey.courses[0].length = length;
+        let dimensions = Dimensions {
+            d1: 50_000,
+            d2: 50_000,
+        };
+        let one = Counts {
+            shell: 1,
+            flanges: 1,
+            heads: 1,
+        };
+        // 3·50,000·100,000 cubic u and 3 v.
+        assert_eq!(tolerance(&survey, dimensions), 45_000_000_000);
+        let height = DipHeight(25_000);
+        let covering = reference::slabs::total(&survey, dimensions, height, Slabs::Covering, one);
+        let by_hand = Big::product(&[50_000, 100_000, 25_000]);
+        assert_eq!(covering.top, covering.bottom.times(&by_hand));
+        // The covering slab is 12,500 v and the tolerance 4.5 v: the largest
+        // gross row is 12,504. With the course's length instead of L1 the slab
+        // would be 12,487.5 or 12,512.5 v.
+        let holds =
+            |gross| condition_holds(&survey, dimensions, height, gross, Slabs::Covering, one);
+        assert!(holds(12_504));
+        assert!(!holds(12_505));
+    }
 }
 
 /// The readings that the proved definitions are held to, met by this program

@@ -226,10 +226,22 @@ fn deadwood_numbers() {
 
 #[test]
 fn lengths() {
+    assert_eq!(
+        sentence(&paper_survey_of(100_000, &[25_000; 3])),
+        "sum of the course lengths 75000 (750.00 mm): must be 99700 to 100300, the shell length \
+         L1 give or take 100 for each course"
+    );
     but(
         56,
-        99_999,
-        "sum of the course lengths 99999 (999.99 mm): must be the shell length L1, 100000",
+        99_899,
+        "sum of the course lengths 99899 (998.99 mm): must be 99900 to 100100, the shell length \
+         L1 give or take 100 for each course",
+    );
+    // The largest sum there is.
+    assert_eq!(
+        sentence(&paper_survey_of(3_000_000, &[3_000_000; 40])),
+        "sum of the course lengths 120000000 (1,200,000.00 mm): must be 2996000 to 3004000, the \
+         shell length L1 give or take 100 for each course"
     );
 }
 

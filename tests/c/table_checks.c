@@ -61,6 +61,18 @@ static void with_deadwood(uint8_t *survey, uint32_t low, uint32_t high, int32_t 
     put(survey, PAPER_BYTES + 8, (uint32_t)volume);
 }
 
+/* The paper's survey with a course that misses L1 by no more than it may: D1 goes by the course's length, the rows by L1. */
+static void missing_course(uint32_t length, const char *what)
+{
+    uint8_t survey[PAPER_BYTES];
+    paper_survey(survey);
+    put(survey, 56, length);
+    uint32_t *cells = lent_cells(PAPER_ROWS);
+    struct milechime_table_answer a =
+        milechime_table(lent_bytes(survey, PAPER_BYTES), PAPER_BYTES, cells, PAPER_ROWS);
+    check(answers(a, 0, 0, 50000, 50000, PAPER_ROWS) && holds_the_paper_rows(cells), what);
+}
+
 static void accepted_surveys(void)
 {
     enum { MORE = PAPER_ROWS + 5, ITEM_BYTES = PAPER_BYTES + 12 };
@@ -77,6 +89,9 @@ static void accepted_surveys(void)
     a = milechime_table(lent_bytes(survey, PAPER_BYTES), PAPER_BYTES, cells, MORE);
     check(answers(a, 0, 0, 50000, 50000, PAPER_ROWS) && holds_the_paper_rows(cells), "a longer table holds the same rows");
     check(untouched_from(cells, PAPER_ROWS, MORE), "cells behind the rows stay");
+
+    missing_course(99900, "one course 100 shorter than the shell: the same D1, and the paper's rows");
+    missing_course(100100, "one course 100 longer than the shell: the same D1, and the paper's rows");
 
     with_deadwood(survey, 10000, 30000, 1000);
     cells = lent_cells(PAPER_ROWS);
@@ -118,7 +133,8 @@ static void refused_surveys(void)
     refused_with(4, 49999, 5, 4, "DH 49,999: refusal 5 at byte 4");
     refused_with(24, 1, 5, 24, "a flat head with a length: refusal 5 at byte 24");
     refused_with(60, 5001, 5, 60, "a wall too thick: refusal 5 at byte 60");
-    refused_with(8, 100001, 6, 0, "courses shorter than the shell: refusal 6");
+    refused_with(56, 99899, 6, 0, "one course 101 shorter than the shell: refusal 6");
+    refused_with(56, 100101, 6, 0, "one course 101 longer than the shell: refusal 6");
     refused_with(4, 60001, 7, 0, "D1 more than 10,000 below DH: refusal 7");
 }
 

@@ -46,7 +46,8 @@ void words_checks(void)
     told_with(32, 41, "course count 41: must be 1 to 40");
     told_with(0, 2, "head kind 2: must be 0 (flat) or 1 (half-ellipsoid)");
     told_with(4, 49999, "dip diameter DH 49999 (499.99 mm): must be 50000 to 500000");
-    told_with(56, 99999, "sum of the course lengths 99999 (999.99 mm): must be the shell length L1, 100000");
+    told_with(56, 99899, "sum of the course lengths 99899 (998.99 mm): must be 99900 to 100100, "
+                         "the shell length L1 give or take 100 for each course");
     told_with(60, 5001, "course 1, thickness 5001 (50.01 mm): must be 100 to 5000");
     check(says(milechime_words(NULL, 0, 1, 0), "file of 0 bytes: must have 48 to 65536"), "no survey at all");
     check(says(milechime_words(survey, PAPER_BYTES, 8, 0), "lent table: must have a cell for each row"), "a lent table that is too short");

@@ -21,6 +21,13 @@ pick-le {m = m} {n = n} a b h = rw (le-leb m n h)
 pub pick-gt {ℓ} : {A : Type ℓ} {m n : ℕ} (a b : A) → n < m → pick (leb m n) a b ≡ b
 pick-gt {m = m} {n = n} a b h = rw (lt-leb m n h)
 
+-- two orders of which each gives the other are one test
+pub same-order : (a b c d : ℕ) → (a ≤ b → c ≤ d) → (c ≤ d → a ≤ b) → leb a b ≡ leb c d
+same-order a b c d there back =
+    by-order a b
+    (λ l. rw (le-leb a b l, le-leb c d (there l)))
+    (λ l. rw (lt-leb a b l, lt-leb c d (by-order c d (λ k. absurd (not-le-of-lt l (back k))) (λ k. k))))
+
 -- squares are ordered as their sides
 pub lt-of-square : (a b : ℕ) → a * a < b * b → a < b
 lt-of-square a b h = by-order b a (λ l. absurd (not-le-of-lt h (mul-le-mul l l))) (λ l. l)

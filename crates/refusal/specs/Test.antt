@@ -1,6 +1,6 @@
 -- Document 01, 'Refusal numbers, tested in this order': a test has the refusal's number, its place and whether it passes; the
 -- verdict on a list of tests is the first that fails. Assumes nothing.
-use Prim.Native.Nat.{ℕ, zero, suc}
+use Prim.Native.Nat.{ℕ, zero, suc, _+_}
 use mathlib.Core.Bool.{Bool, _&&_}
 use mathlib.Core.List.{List, [], _∷_, _++_}
 use lib.Dec.{leb}
@@ -33,6 +33,10 @@ items (suc n) f = items n f ++ f n
 -- a number within its limits
 abbrev pub within : (low x high : ℕ) → Bool
 within low x high = leb low x && leb x high
+
+-- two numbers that differ by no more than so much, either way
+abbrev pub near : (x y most : ℕ) → Bool
+near x y most = leb y (x + most) && leb x (y + most)
 
 -- the verdict on two lists in a row: the first's where that refuses
 abbrev pub firstRefusal : Verdict → Verdict → Verdict

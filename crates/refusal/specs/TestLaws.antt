@@ -1,22 +1,22 @@
 -- Laws of verdicts: over two lists in a row, over tests taken in turn, over items each with tests of its own, and what a verdict that
 -- refuses nothing says of every test. Assumes nothing.
-use Prim.Native.Nat.{ℕ, zero, suc, _+_, _≤_, _<_}
+use Prim.Native.Nat.{ℕ, zero, suc, _+_, _-_, _≤_, _<_}
 use mathlib.Core.Path.{_≡_, refl, sym, _∙_, ap₂}
-use mathlib.Core.Bool.{Bool, true, false}
+use mathlib.Core.Bool.{Bool, true, false, _&&_}
 use mathlib.Core.List.{List, [], _∷_, _++_}
 use native.Mathlib.Nat.{le-step, lt-suc-self}
 use native.Mathlib.Numerals.{add-one}
 use native.Mathlib.Omega.{arith}
 use lib.Dec.{leb}
-use borrow.Author.Tests.{leb-true}
+use borrow.Author.Tests.{leb-true, le-leb}
 use Rattle.laws.specs.Order.{pick}
-use Rattle.laws.specs.OrderLaws.{by-order}
+use Rattle.laws.specs.OrderLaws.{by-order, same-order}
 use Rattle.laws.specs.BoolLaws.{true-not-false, both-pass}
 use Rattle.laws.specs.Exactly.{Exactly}
 use Rattle.refusal.specs.declared.Refusal.{Refusal}
 use Rattle.refusal.specs.declared.Verdict.{Verdict}
 use Rattle.refusal.specs.declared.Verdict.the-variants.{Passed, Refused}
-use Rattle.refusal.specs.Test.{Test, test, refusal, verdict, items, within, firstRefusal}
+use Rattle.refusal.specs.Test.{Test, test, refusal, verdict, items, within, near, firstRefusal}
 
 pub verdict-append : (ts us : List Test) → verdict (ts ++ us) ≡ firstRefusal (verdict ts) (verdict us)
 verdict-append [] us = refl
@@ -100,6 +100,21 @@ pub within-pass : (low x high : ℕ) → within low x high ≡ true → (low ≤
 within-pass low x high e =
     let both = both-pass (leb low x) (leb x high) e in
     (leb-true low x (both .0), leb-true x high (both .1))
+
+-- two numbers are near when the difference between them is, whichever is the larger
+pub near-difference : (x y most : ℕ) → near x y most ≡ leb ((x - y) + (y - x)) most
+near-difference x y most =
+    by-order x y
+    (λ l. rw (le-leb x (y + most) (omega arith), both-true (leb y (x + most))) (same-order y (x + most) ((x - y) + (y - x)) most (λ k. omega arith) (λ k. omega arith)))
+    (λ l. rw (le-leb y (x + most) (omega arith)) (same-order x (y + most) ((x - y) + (y - x)) most (λ k. omega arith) (λ k. omega arith)))
+  where
+    both-true : (b : Bool) → b && true ≡ b
+    both-true true = refl
+    both-true false = refl
+
+-- .. and when the one is within limits around the other
+pub near-within : (x y most : ℕ) → near x y most ≡ within (y - most) x (y + most)
+near-within x y most = rw (same-order y (x + most) (y - most) x (λ k. omega arith) (λ k. omega arith))
 
 -- tests that all pass refuse nothing
 pub all-passed : (n : ℕ) (f : ℕ → List Test) → ((i : ℕ) → i < n → verdict (f i) ≡ Passed) → verdict (items n f) ≡ Passed

@@ -4,6 +4,8 @@ ghost use mathlib.Core.Path.{_≡_};
 ghost use mathlib.Core.List.{[], _∷_};
 ghost use Rattle.refusal.specs.Test.{test, verdict, firstRefusal};
 
+pub mod number;
+
 pub struct Refusal {
     pub number: u32,
     pub place: u32,

@@ -4,13 +4,12 @@
 use Prim.Native.Nat.{ℕ, zero, suc, _+_, _*_, _-_}
 use mathlib.Core.Bool.{Bool, _&&_}
 use mathlib.Core.List.{List}
-use lib.Dec.{leb}
 use Rattle.laws.specs.Nearest.{nearest}
 use Rattle.laws.specs.Order.{pick}
 use Rattle.measure.specs.Diameter.{smallest, largest}
 use Rattle.measure.specs.Pi.{piOver, piUnder}
 use Rattle.measure.specs.Quantity.{diameter}
-use Rattle.refusal.specs.Test.{refusal, within}
+use Rattle.refusal.specs.Test.{refusal, within, near}
 use Rattle.survey.specs.declared.dimensions.Sums.{Sums}
 use Rattle.survey.specs.declared.dimensions.Dimensions.{Dimensions}
 use Rattle.survey.specs.declared.dimensions.Dimensions.the-variants.{Found, Refused}
@@ -18,7 +17,7 @@ use Rattle.survey.specs.declared.format.Format.{Format}
 use Rattle.survey.specs.declared.section.Section.{Section}
 use Rattle.survey.specs.Word.{word}
 use Rattle.survey.specs.Layout.{leftAt, rightAt, firstIn, secondIn, lengthIn, thicknessIn}
-use Rattle.survey.specs.Limits.{farthest}
+use Rattle.survey.specs.Limits.{courseAllowance, farthest}
 use Rattle.survey.specs.Section.{courses, recordAt}
 
 -- what the course at a byte adds to the sums: (first + second circumference) · length, its length, its thickness
@@ -49,6 +48,15 @@ sumsOver s x (suc n) = added (sumsOver s x n) (sumOf s (recordAt x n))
 abbrev pub sumsOf : Format → List ℕ → Sums
 sumsOf f s = sumsOver s (courses f s) (courses f s .count)
 
+-- how far the lengths may lie from L1: readings are good to 0.5 mm, so honest lengths seldom add up to it (document 02, E1)
+abbrev pub allowance : Sums → ℕ
+allowance t = courseAllowance * t .count
+
+-- refusal 6 is not given: the lengths' sum and L1 differ by no more, either way. What is weighted by length goes by the sum, and the shell
+-- is L1 long
+unfoldable pub lengthsFit : Sums → ℕ → Bool
+lengthsFit t l1 = near (t .lengths) l1 (allowance t)
+
 -- of readings in pairs, weighted by lengths: 113·W / (710·ΣL), to the nearest
 unfoldable pub outerDiameter : (readings lengths : ℕ) → ℕ
 outerDiameter readings lengths = nearest (piUnder * readings) (2 * piOver * lengths)
@@ -76,7 +84,7 @@ d2 f s = headDiameter (sumsOf f s) (word s leftAt) (word s rightAt)
 
 -- a diameter within its limits and not far from DH
 unfoldable pub diameterFits : (d dh : ℕ) → Bool
-diameterFits d dh = (leb d (dh + farthest) && leb dh (d + farthest)) && within smallest d largest
+diameterFits d dh = near d dh farthest && within smallest d largest
 
 -- refusal 7 is not given
 abbrev pub diametersFit : (dh d1 d2 : ℕ) → Bool

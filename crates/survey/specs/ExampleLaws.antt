@@ -3,6 +3,7 @@
 use Prim.Native.Nat.{ℕ, _/_, _%_}
 use mathlib.Core.Path.{_≡_, refl}
 use mathlib.Core.List.{List, [], _∷_, _++_}
+use lib.ListN.{length}
 use Rattle.laws.specs.Fill.{rowsOf}
 use Rattle.laws.specs.Nearest.{nearest}
 use Rattle.measure.specs.Quantity.{diameter}
@@ -14,7 +15,7 @@ use Rattle.heads.specs.Length.{lengthFits}
 use Rattle.survey.specs.declared.decode.Survey.{Survey}
 use Rattle.survey.specs.Word.{word, signedWord}
 use Rattle.survey.specs.Section.{countFits, placed, apart}
-use Rattle.survey.specs.Dimensions.{sumOf, sumsOver, outerDiameter, wall, shellDiameter, headDiameter, diameterFits}
+use Rattle.survey.specs.Dimensions.{sumOf, sumsOver, lengthsFit, outerDiameter, wall, shellDiameter, headDiameter, diameterFits}
 use Rattle.survey.specs.Tests.{layoutTests, headerTests, courseTests, itemTests, dimensionTests, fileTests}
 use Rattle.survey.specs.Survey.{noItems, decodedBy, decoded}
 
@@ -26,11 +27,17 @@ abbrev pub concat : List ℕ → List ℕ
 concat [] = []
 concat (n ∷ ns) = bytes n ++ concat ns
 
+-- with courses of these lengths, each as round and as thick as its one course
+abbrev pub sixRowsOf : List ℕ → List ℕ
+sixRowsOf lengths =
+    concat (0 ∷ 50000 ∷ 100000 ∷ 160221 ∷ 160221 ∷ 0 ∷ 0 ∷ 10000 ∷ length lengths ∷ 48 ∷ 0 ∷ 0 ∷ courses lengths)
+  where
+    courses : List ℕ → List ℕ
+    courses [] = []
+    courses (n ∷ ns) = 160221 ∷ 160221 ∷ n ∷ 500 ∷ courses ns
+
 abbrev pub sixRows : List ℕ
-sixRows =
-    concat
-    (0 ∷ 50000 ∷ 100000 ∷ 160221 ∷ 160221 ∷ 0 ∷ 0 ∷ 10000 ∷ 1 ∷ 48 ∷ 0 ∷ 0
-    ∷ 160221 ∷ 160221 ∷ 100000 ∷ 500 ∷ [])
+sixRows = sixRowsOf (100000 ∷ [])
 
 -- a tank of 500.00 mm all over
 abbrev pub sixRowsSurvey : Survey
@@ -42,6 +49,19 @@ sixRowsSurvey =
       count = 0;
     }
 
-pub six-rows-decoded : decoded sixRows ≡ decodedBy Passed sixRowsSurvey
-unfolding rowsOf nearest items kindKnown kindOf lengthFits word signedWord countFits placed apart sumOf sumsOver outerDiameter wall shellDiameter headDiameter diameterFits layoutTests headerTests courseTests itemTests dimensionTests fileTests decoded
+-- it is the survey of a file
+abbrev pub SixRows : List ℕ → Type 0
+SixRows s = decoded s ≡ decodedBy Passed sixRowsSurvey
+
+pub six-rows-decoded : SixRows sixRows
+unfolding rowsOf nearest items kindKnown kindOf lengthFits word signedWord countFits placed apart sumOf sumsOver lengthsFit outerDiameter wall shellDiameter headDiameter diameterFits layoutTests headerTests courseTests itemTests dimensionTests fileTests decoded
 six-rows-decoded = refl
+
+-- courses that miss by a hair (document 02, E1): 100 u for each of them, short and long. D1 goes by the sum of the lengths, and the shell
+-- is L1 long all the same
+pub missing-courses-decoded : SixRows (sixRowsOf (99900 ∷ []))
+    × SixRows (sixRowsOf (100100 ∷ []))
+    × SixRows (sixRowsOf (50000 ∷ 49800 ∷ []))
+    × SixRows (sixRowsOf (60000 ∷ 30000 ∷ 10300 ∷ []))
+unfolding rowsOf nearest items kindKnown kindOf lengthFits word signedWord countFits placed apart sumOf sumsOver lengthsFit outerDiameter wall shellDiameter headDiameter diameterFits layoutTests headerTests courseTests itemTests dimensionTests fileTests decoded
+missing-courses-decoded = (refl, refl, refl, refl)

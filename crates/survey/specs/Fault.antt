@@ -27,7 +27,7 @@ use Rattle.survey.specs.Word.{word, signedWord}
 use Rattle.survey.specs.Layout.{today, headerEnd, kindAt, dhAt, l1At, stepAt, coursesAt, deadwoodAt, highIn, volumeIn}
 use Rattle.survey.specs.Limits.{largestFile, mostCourses, shortestCircumference, longestCircumference, shortestShell, shortestCourse, thinnest, thickest}
 use Rattle.survey.specs.Section.{courses, deadwood, sections, endOf, countFits, placed, apart, recordLong}
-use Rattle.survey.specs.Dimensions.{sumsOf, d1, d2, diameterFits}
+use Rattle.survey.specs.Dimensions.{sumsOf, allowance, d1, d2, diameterFits}
 use Rattle.survey.specs.Sentence.{ofCourses, ofDeadwood, ofSize, ofLargeFile, ofOverlap, ofLengths, ofShellDiameter, ofHeadDiameter}
 use Rattle.survey.specs.Sentence.{ofLentTable, ofFallingRow, ofRowBelowZero, ofUnknown}
 use Rattle.survey.specs.Tests.{layoutTests, numberTests}
@@ -176,7 +176,9 @@ unfoldable pub numbersPass : Format → List ℕ → Bool
 numbersPass f s = within (f .header) (length s) largestFile && (passed (verdict (layoutTests f s)) && passed (verdict (numberTests f s)))
 
 unfoldable pub lengthsFault : Format → List ℕ → Fault
-lengthsFault f s = faultWith ofLengths 0 (sumsOf f s .lengths) 0 (word s l1At)
+lengthsFault f s =
+    let t = sumsOf f s in
+    faultWith ofLengths 0 (t .lengths) (word s l1At - allowance t) (word s l1At + allowance t)
 
 -- D1 where that does not fit, else D2
 unfoldable pub diameterFault : Format → List ℕ → Fault

@@ -13,7 +13,7 @@ use Rattle.heads.specs.Length.{lengthFits}
 use Rattle.survey.specs.declared.fault.Fault.{Fault}
 use Rattle.survey.specs.Word.{word, signedWord}
 use Rattle.survey.specs.Section.{countFits, placed, apart}
-use Rattle.survey.specs.Dimensions.{sumOf, sumsOver, outerDiameter, wall, shellDiameter, headDiameter, diameterFits}
+use Rattle.survey.specs.Dimensions.{sumOf, sumsOver, lengthsFit, outerDiameter, wall, shellDiameter, headDiameter, diameterFits}
 use Rattle.survey.specs.Tests.{layoutTests, headerTests, courseTests, itemTests, dimensionTests, fileTests}
 use Rattle.survey.specs.Survey.{decoded}
 use Rattle.survey.specs.Fault.{faultWith, unknown, sizeFault, headerLimits, headerFault, countFault, placeFault, courseFault, volumeFault, itemFault}
@@ -38,16 +38,17 @@ About s number place fault = (decoded s .verdict ≡ Refused (refusal number pla
 abbrev volumeTooLow : Fault
 volumeTooLow = record { sentence = 18; item = 2; value = negℤ (pos 10000001); low = negℤ (pos 10000000); high = pos 10000000 }
 
--- DH, a count, the deadwood from the courses' last byte on, the sum of the lengths, D1, item 2's high height above DH and its volume
+-- DH, a count, the deadwood from the courses' last byte on, the sum of the lengths one too short and one too long, D1, item 2's high height above DH and its volume
 pub changed-words : About (file 49999 1 64 160221 100000 400 5) 5 4 (faultWith 1 0 49999 50000 500000)
     × About (file 50000 41 64 160221 100000 400 5) 2 0 (faultWith 8 0 41 1 40)
     × About (file 50000 1 63 160221 100000 400 5) 3 0 (faultWith 21 2 63 0 0)
-    × About (file 50000 1 64 160221 99999 400 5) 6 0 (faultWith 22 0 99999 0 100000)
+    × About (file 50000 1 64 160221 99899 400 5) 6 0 (faultWith 22 0 99899 99900 100100)
+    × About (file 50000 1 64 160221 100101 400 5) 6 0 (faultWith 22 0 100101 99900 100100)
     × About (file 50000 1 64 300000 100000 400 5) 7 0 (faultWith 23 50000 72246 50000 500000)
     × About (file 50000 1 64 160221 100000 50001 5) 5 80 (faultWith 17 2 50001 0 50000)
     × About (file 50000 1 64 160221 100000 400 4284967295) 5 84 volumeTooLow
-unfolding rowsOf nearest items kindKnown kindOf lengthFits word signedWord countFits placed apart sumOf sumsOver outerDiameter wall shellDiameter headDiameter diameterFits layoutTests headerTests courseTests itemTests dimensionTests fileTests decoded headerLimits headerFault countFault placeFault courseFault volumeFault itemFault fieldFault numberFault numbersPass lengthsFault diameterFault dimensionFault headedFault faultAs faultOf
-changed-words = ((refl, refl), (refl, refl), (refl, refl), (refl, refl), (refl, refl), (refl, refl), (refl, refl))
+unfolding rowsOf nearest items kindKnown kindOf lengthFits word signedWord countFits placed apart sumOf sumsOver lengthsFit outerDiameter wall shellDiameter headDiameter diameterFits layoutTests headerTests courseTests itemTests dimensionTests fileTests decoded headerLimits headerFault countFault placeFault courseFault volumeFault itemFault fieldFault numberFault numbersPass lengthsFault diameterFault dimensionFault headedFault faultAs faultOf
+changed-words = ((refl, refl), (refl, refl), (refl, refl), (refl, refl), (refl, refl), (refl, refl), (refl, refl), (refl, refl))
 
 -- a file without bytes; and a refusal of no survey, whatever the file
 pub no-bytes : About [] 1 0 (faultWith 19 0 0 48 65536)

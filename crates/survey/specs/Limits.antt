@@ -28,6 +28,10 @@ thinnest = 100
 abbrev pub thickest : ℕ
 thickest = 5000
 
+-- how far the course lengths together may lie from L1, for each course
+abbrev pub courseAllowance : ℕ
+courseAllowance = 100
+
 -- how far a diameter may lie from DH
 abbrev pub farthest : ℕ
 farthest = 10000

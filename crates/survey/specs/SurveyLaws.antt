@@ -1,11 +1,10 @@
 -- What a file that is not refused promises of its survey, as plain facts. Assumes nothing.
 use Prim.Native.Nat.{ℕ, _+_, _≤_, _<_}
 use mathlib.Core.Path.{_≡_, refl}
-use mathlib.Core.Bool.{true, _&&_}
+use mathlib.Core.Bool.{true}
 use mathlib.Core.List.{List, [], _++_}
 use native.Mathlib.Nat.{le-refl}
 use native.Mathlib.Omega.{arith}
-use lib.Dec.{leb}
 use lib.IntN.{natAbs}
 use lib.ListN.{length}
 use lib.Seq.{take-at}
@@ -16,7 +15,7 @@ use Rattle.measure.specs.Quantity.{dipUnits}
 use Rattle.schedule.specs.Rows.{smallestStep, largestStep}
 use Rattle.refusal.specs.declared.Verdict.{Verdict}
 use Rattle.refusal.specs.declared.Verdict.the-variants.{Passed, Refused}
-use Rattle.refusal.specs.Test.{verdict, items, within}
+use Rattle.refusal.specs.Test.{verdict, items, within, near}
 use Rattle.refusal.specs.TestLaws.{refused-not-passed, passed-pick, passed-all, passed-append, passed-items, within-pass}
 use Rattle.heads.specs.Kind.{kindOf}
 use Rattle.heads.specs.Length.{longest}
@@ -143,18 +142,22 @@ module _ (f : Format) (s : List ℕ) (fit : NumbersFit f s) where
   unfolding headerTests
   step-fits = within-pass smallestStep (word s stepAt) largestStep (passed-all (headerTests s) header-passed .1 .1 .1 .1 .1 .1 .0)
 
+  pub shell-fits : (shortestShell ≤ word s l1At) × (word s l1At ≤ longestShell)
+  unfolding headerTests
+  shell-fits = within-pass shortestShell (word s l1At) longestShell (passed-all (headerTests s) header-passed .1 .0)
+
   lengths-fit : (word s l1At ≤ longestShell) × (word s l2At ≤ longestFlange) × (word s l3At ≤ longest)
   unfolding headerTests
   lengths-fit =
       let pass = passed-all (headerTests s) header-passed in (
-        within-pass shortestShell (word s l1At) longestShell (pass .1 .0) .1,
+        shell-fits .1,
         within-pass 0 (word s l2At) longestFlange (pass .1 .1 .1 .1 .0) .1,
         length-at-most (kindOf (word s kindAt)) (word s l3At) (pass .1 .1 .1 .1 .1 .0),
       )
 
 fits-within : (d dh : ℕ) → diameterFits d dh ≡ true → (smallest ≤ d) × (d ≤ largest)
 unfolding diameterFits
-fits-within d dh e = within-pass smallest d largest (both-pass (leb d (dh + farthest) && leb dh (d + farthest)) (within smallest d largest) e .1)
+fits-within d dh e = within-pass smallest d largest (both-pass (near d dh farthest) (within smallest d largest) e .1)
 
 -- the tests taken apart
 pub passed-file : (f : Format) (s : List ℕ) → Readable f → verdict (fileTests f s) ≡ Passed → NumbersFit f s × (verdict (dimensionTests f s) ≡ Passed)

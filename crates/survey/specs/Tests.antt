@@ -2,7 +2,6 @@
 -- Assumes nothing.
 use Prim.Native.Nat.{ℕ, _+_}
 use mathlib.Core.List.{List, [], _∷_, _++_}
-use lib.Dec.{eqb}
 use lib.ListN.{length}
 use Rattle.measure.specs.Diameter.{smallest, largest}
 use Rattle.schedule.specs.Rows.{smallestStep, largestStep}
@@ -20,7 +19,7 @@ use Rattle.survey.specs.Layout.{kindAt, dhAt, l1At, leftAt, rightAt, l2A
 use Rattle.survey.specs.Limits.{largestFile, shortestCircumference, longestCircumference, shortestShell, shortestCourse, thinnest, thickest}
 use Rattle.survey.specs.Section.{sections, recordAt, countFits, placed, apart}
 use Rattle.survey.specs.Item.{itemFrom}
-use Rattle.survey.specs.Dimensions.{sumsOf, d1, d2, diametersFit}
+use Rattle.survey.specs.Dimensions.{sumsOf, lengthsFit, d1, d2, diametersFit}
 
 -- refusal 2: every section's count
 abbrev pub countTests : List Section → List Test
@@ -94,7 +93,7 @@ numberTests f s = headerTests s ++ sectionsTests s (sections f s)
 -- refusals 6 and 7
 unfoldable pub dimensionTests : Format → List ℕ → List Test
 dimensionTests f s =
-    test 6 0 (eqb (sumsOf f s .lengths) (word s l1At))
+    test 6 0 (lengthsFit (sumsOf f s) (word s l1At))
     ∷ test 7 0 (diametersFit (word s dhAt) (d1 f s) (d2 f s))
     ∷ []
 

@@ -8,10 +8,11 @@ ghost use Rattle.measure.specs.Pi.{piUnder};
 ghost use Rattle.measure.specs.Quantity.{diameter};
 ghost use Rattle.tank.specs.Limits.{longestShell};
 ghost use Rattle.survey.specs.Limits.{mostCourses};
-ghost use Rattle.survey.specs.Dimensions.{sumOf, added, sumsOver, outerDiameter, wall, shellDiameter, headDiameter, diameterFits, dimensions};
+ghost use Rattle.survey.specs.Dimensions.{sumOf, added, sumsOver, allowance, lengthsFit, outerDiameter, wall, shellDiameter, headDiameter, diameterFits, dimensions};
 ghost use Rattle.survey.specs.Layout.{courseEnd};
 ghost use Rattle.survey.specs.CourseLaws.{CourseFits, Courses, SumsSmall};
 use crate::layout;
+use crate::limits::COURSE_ALLOWANCE;
 use crate::limits::FARTHEST;
 use crate::section::Section;
 use crate::section::record_at;
@@ -22,6 +23,7 @@ use measure::diameter::Measured;
 use measure::pi::PI_OVER;
 use measure::pi::PI_UNDER;
 use refusal::Refusal;
+use refusal::number::is_near;
 
 // What the dimensions are made of, summed over courses.
 pub struct Sums {
@@ -88,6 +90,22 @@ pub fn sums_over(section: Section, s: &[u8]) -> Sums
     t
 }
 
+// How far the lengths may lie from L1.
+pub fn allowance(t: Sums) -> u64
+    requires { ⌜ SumsSmall t ⌝ }
+    ensures { λ r. ⌜ r ≡ allowance t ⌝ }
+{
+    COURSE_ALLOWANCE * t.count
+}
+
+// Whether the lengths are as near to L1 as that.
+pub fn lengths_fit(t: Sums, l1: u32) -> bool
+    requires { ⌜ SumsSmall t ⌝ }
+    ensures { λ r. ⌜ r ≡ lengthsFit t l1 ⌝ }
+{
+    is_near(t.lengths, l1 as u64, allowance(t))
+}
+
 // Of circumferences, in pairs, weighted by lengths.
 fn outer_diameter(readings: u64, lengths: u64) -> u64
     requires { ⌜ (piUnder * readings < 2 ^ 63) × (1 ≤ lengths) × (lengths ≤ mostCourses * longestShell) ⌝ }
@@ -131,10 +149,7 @@ pub fn head_diameter(t: Sums, left: u32, right: u32) -> u64
 pub fn fitting(d: u64, dh: u32) -> Measured
     ensures { λ r. ⌜ r ≡ pick (diameterFits d dh) (Measured.Within (diameter d)) Measured.Outside ⌝ }
 {
-    if dh as u64 + FARTHEST < d {
-        return Measured::Outside;
-    }
-    if d + FARTHEST < dh as u64 {
+    if !is_near(d, dh as u64, FARTHEST) {
         return Measured::Outside;
     }
     Diameter::of(d)

@@ -8,6 +8,7 @@ ghost use Rattle.survey.specs.SectionLaws.{Readable};
 ghost use Rattle.survey.specs.SurveyLaws.{NumbersFit};
 ghost use Rattle.survey.specs.Fault.{faultWith, unknown, sizeFault, countFault, placeFault, passed, numbersPass};
 ghost use Rattle.survey.specs.Fault.{lengthsFault, diameterFault, dimensionFault, rowFault, headedFault, faultAs, faultOf};
+use crate::dimensions::allowance;
 use crate::dimensions::fitting;
 use crate::dimensions::head_diameter;
 use crate::dimensions::shell_diameter;
@@ -17,7 +18,6 @@ use crate::format::Format;
 use crate::judge::file_sums;
 use crate::layout;
 use crate::limits::LARGEST_FILE;
-use crate::limits::is_within;
 use crate::numbers::numbers_tested;
 use crate::section::Records;
 use crate::section::are_apart;
@@ -31,6 +31,7 @@ use crate::word::word;
 use measure::diameter::Diameter;
 use measure::diameter::Measured;
 use refusal::Verdict;
+use refusal::number::is_within;
 
 pub struct Fault {
     // the sentence's place in the list of sentences
@@ -141,7 +142,9 @@ fn lengths_fault(f: Format, s: &[u8]) -> Fault
     ensures { λ r. ⌜ r ≡ lengthsFault f (now (s .entry)) ⌝ }
 {
     let t = file_sums(f, s);
-    fault_with(sentence::OF_LENGTHS, 0, t.lengths, 0, word(s, layout::L1))
+    let l1 = word(s, layout::L1);
+    let most = allowance(t) as u32;
+    fault_with(sentence::OF_LENGTHS, 0, t.lengths, l1 - most, l1 + most)
 }
 
 // A diameter: DH is what it is compared with.

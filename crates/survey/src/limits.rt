@@ -3,11 +3,12 @@ ghost use mathlib.Core.Path.{_≡_};
 ghost use mathlib.Core.List.{[], _∷_};
 ghost use Prim.Native.Nat.{_+_, _^_, _≤_, _<_};
 ghost use lib.ListN.{length};
-ghost use Rattle.refusal.specs.Test.{verdict, firstRefusal, within};
+ghost use Rattle.refusal.specs.Test.{verdict, firstRefusal};
 ghost use Rattle.survey.specs.Tests.{limit};
 use crate::word::word;
 use refusal::Verdict;
 use refusal::next_test;
+use refusal::number::is_within;
 
 // A file's size in bytes.
 pub const LARGEST_FILE: usize = 65_536;
@@ -27,15 +28,11 @@ pub const THINNEST: u32 = 100;
 
 pub const THICKEST: u32 = 5_000;
 
+// How far the course lengths together may lie from L1, for each course.
+pub const COURSE_ALLOWANCE: u64 = 100;
+
 // How far a diameter may lie from DH.
 pub const FARTHEST: u64 = 10_000;
-
-// Whether a number is within its limits.
-pub fn is_within(low: u64, x: u64, high: u64) -> bool
-    ensures { λ r. ⌜ r ≡ within low x high ⌝ }
-{
-    low <= x && x <= high
-}
 
 // The verdict so far, and then the test of the number at a byte, which is its place.
 pub fn limit(so_far: Verdict, s: &[u8], at: usize, low: u32, high: u32) -> Verdict

@@ -20,7 +20,7 @@ pub in-words :
     × (faultWords (faultWith ofSize 0 47 48 65536) ≡ ascii "file of 47 bytes: must have 48 to 65536")
     × (faultWords (faultWith ofLargeFile 0 0 48 65536) ≡ ascii "file of more than 65536 bytes: must have 48 to 65536")
     × (faultWords (faultWith ofOverlap 1 60 0 0) ≡ ascii "byte offset of the deadwood 60: its 1 records must not overlap the courses")
-    × (faultWords (faultWith ofLengths 0 75000 0 100000) ≡ ascii "sum of the course lengths 75000 (750.00 mm): must be the shell length L1, 100000")
+    × (faultWords (faultWith ofLengths 0 75000 99700 100300) ≡ ascii "sum of the course lengths 75000 (750.00 mm): must be 99700 to 100300, the shell length L1 give or take 100 for each course")
     × (faultWords (faultWith ofShellDiameter 50000 62662 50000 500000) ≡ ascii "shell diameter D1 62662 (626.62 mm): must be 50000 to 500000 and at most 10000 from DH 50000")
     × (faultWords (faultWith ofHeadDiameter 50000 48975 50000 500000) ≡ ascii "head diameter D2 48975 (489.75 mm): must be 50000 to 500000 and at most 10000 from DH 50000")
     × (faultWords (faultWith ofLentTable 0 0 0 0) ≡ ascii "lent table: must have a cell for each row")

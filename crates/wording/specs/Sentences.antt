@@ -44,7 +44,7 @@ sentences =
     "file of $ bytes: must have < to >" ∷
     "file of more than > bytes: must have < to >" ∷
     "byte offset of the deadwood $: its # records must not overlap the courses" ∷
-    "sum of the course lengths $ (~ mm): must be the shell length L1, >" ∷
+    "sum of the course lengths $ (~ mm): must be < to >, the shell length L1 give or take 100 for each course" ∷
     "shell diameter D1 $ (~ mm): must be < to > and at most 10000 from DH #" ∷
     "head diameter D2 $ (~ mm): must be < to > and at most 10000 from DH #" ∷
     -- 25 on: the table

@@ -50,7 +50,7 @@ pub fn put_words(out: &mut [u8], at: usize, fault: Fault) -> usize
         file of $ bytes: must have < to >\n\
         file of more than > bytes: must have < to >\n\
         byte offset of the deadwood $: its # records must not overlap the courses\n\
-        sum of the course lengths $ (~ mm): must be the shell length L1, >\n\
+        sum of the course lengths $ (~ mm): must be < to >, the shell length L1 give or take 100 for each course\n\
         shell diameter D1 $ (~ mm): must be < to > and at most 10000 from DH #\n\
         head diameter D2 $ (~ mm): must be < to > and at most 10000 from DH #\n\
         lent table: must have a cell for each row\n\

@@ -4,8 +4,8 @@
 //!
 //! `compare TANKTABLE TANKLOOKUP FOLDER`: the paths of the programs, and a
 //! folder for the survey given by `-f` and those on which the two differ. Ends
-//! with 1 if they differ anywhere, or if a refusal or a sentence that can occur
-//! was seen too seldom.
+//! with 1 if they differ anywhere, or if a refusal, a sentence or a miss of the
+//! course lengths that can occur was seen too seldom.
 
 mod lookups;
 mod printed;
@@ -13,7 +13,7 @@ mod seen;
 mod surveys;
 
 use printed::{Comparison, Programs};
-use seen::Seen;
+use seen::{Misses, Seen};
 use std::path::PathBuf;
 
 /// How many cases there are of each seed.
@@ -43,10 +43,12 @@ fn main() {
 
     let mut mismatches = 0;
     let mut surveys_seen = Seen::new(1..=10);
+    let mut misses = Misses::default();
     for seed in SURVEY_SEEDS {
-        mismatches += surveys::compare(seed, SURVEYS, &folder, &mut surveys_seen);
+        mismatches += surveys::compare(seed, SURVEYS, &folder, &mut surveys_seen, &mut misses);
     }
     let mut often_enough = surveys_seen.print("surveys");
+    often_enough &= misses.print();
 
     let mut lookups_seen = Seen::new(11..=13);
     for seed in LOOKUP_SEEDS {

@@ -1,5 +1,7 @@
-//! How often each refusal and each of the sentences was seen.
+//! How often each refusal, each miss of the course lengths and each of the
+//! sentences was seen.
 
+use reference::misses::Miss;
 use std::collections::BTreeMap;
 
 /// Refusal 10 cannot come out of a survey: row 0 is never below zero, and a
@@ -46,6 +48,32 @@ impl Seen {
             often_enough &= !too_few;
         }
         often_enough
+    }
+}
+
+/// Surveys that pass refusals 1 to 5, by how much their course lengths miss L1.
+#[derive(Default)]
+pub struct Misses {
+    counts: BTreeMap<Miss, u64>,
+}
+
+impl Misses {
+    pub fn add(&mut self, survey: &[u8]) {
+        if let Some(miss) = Miss::of_survey(survey) {
+            *self.counts.entry(miss).or_default() += 1;
+        }
+    }
+
+    /// Prints the counts, and says whether each miss was seen often enough.
+    pub fn print(&self) -> bool {
+        let counts = Miss::ALL.map(|miss| (miss, self.counts.get(&miss).copied().unwrap_or(0)));
+        let told = counts.map(|(miss, count)| {
+            let too_few = if count < ENOUGH { ", TOO FEW" } else { "" };
+            format!("{}: {count}{too_few}", miss.name())
+        });
+        println!("surveys by how much their course lengths miss L1");
+        println!("  {}", told.join("; "));
+        counts.iter().all(|&(_, count)| count >= ENOUGH)
     }
 }
 

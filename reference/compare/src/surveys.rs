@@ -1,6 +1,6 @@
 //! Surveys: the whole answer, and every lent cell.
 
-use crate::seen::Seen;
+use crate::seen::{Misses, Seen};
 use compare::calls::{self, TableAnswer};
 use reference::fill_table;
 use reference::generate::{case, Case};
@@ -18,13 +18,14 @@ struct Outcome {
 }
 
 /// Compares the first cases of a seed; returns how many differ.
-pub fn compare(seed: u64, cases: u64, folder: &Path, seen: &mut Seen) -> u64 {
+pub fn compare(seed: u64, cases: u64, folder: &Path, seen: &mut Seen, misses: &mut Misses) -> u64 {
     let mut mismatches = 0;
     for number in 0..cases {
         let case = case(seed, number);
         let ours = outcome(&case, calls::table);
         let reference = outcome(&case, by_reference);
         seen.add(reference.answer.refusal);
+        misses.add(&case.survey);
         if ours != reference {
             mismatches += 1;
             report(seed, number, &ours, &reference);

@@ -2,6 +2,7 @@
 
 use reference::generate::lookups::{lookup_case, Asked};
 use reference::generate::{case, Case};
+use reference::misses::Miss;
 use reference::{make_table, Refusal};
 use std::io::Write;
 
@@ -10,6 +11,7 @@ const USAGE: &str = "usage:
   survey_gen table SEED K          the length of the table lent for survey K
   survey_gen answer SEED K         the answer to case K: accepted D1 D2 ROWS, or refused N P
   survey_gen count SEED N          how often each refusal comes in the first N cases
+  survey_gen misses SEED N         how often their course lengths miss L1, and by how much
   survey_gen lookup SEED K         lookup case K: DH STEP litres|height ASKED, then the rows
   survey_gen lookup-answer SEED K  the answer to lookup case K, in whole u or v
   survey_gen lookup-count SEED N   how often each refusal comes in the first N lookup cases";
@@ -35,6 +37,7 @@ fn main() {
             let case = case(seed, k);
             make_table(&case.survey, case.table_len).err()
         }),
+        "misses" => count_misses(seed, number),
         "lookup" => println!("{}", lookup(seed, number)),
         "lookup-answer" => println!("{}", lookup_answer(seed, number)),
         "lookup-count" => count(number, |k| lookup_case(seed, k).answer().err()),
@@ -77,6 +80,17 @@ fn lookup_answer(seed: u64, number: u64) -> String {
     match lookup_case(seed, number).answer() {
         Ok(figure) => figure.to_string(),
         Err(refusal) => refused(refusal),
+    }
+}
+
+/// Prints how often each miss comes in cases that pass refusals 1 to 5.
+fn count_misses(seed: u64, cases: u64) {
+    let misses: Vec<Miss> = (0..cases)
+        .filter_map(|k| Miss::of_survey(&case(seed, k).survey))
+        .collect();
+    for miss in Miss::ALL {
+        let count = misses.iter().filter(|&&seen| seen == miss).count();
+        println!("{}: {count}", miss.name());
     }
 }
 

@@ -1,23 +1,24 @@
 //! Damage to the bytes of a survey file: lengths, counts, section places, the
 //! head kind, every other number at its limits and past them, and course
-//! lengths that do not add up.
+//! lengths that miss L1 by the allowance, by one more, or by far more.
 
 use super::plan::{put, Plan};
 use crate::bytes::{signed_at, unsigned_at};
 use crate::limits::{self, Limits, COURSE_BYTES, DEADWOOD_BYTES, LARGEST_FILE};
 use crate::random::Random;
+use crate::survey::{length_allowance, sum_of_lengths};
 
 /// One damage. Some leave the file sound: they put a number at its limit.
 pub fn damage(random: &mut Random, plan: &Plan, file: &mut Vec<u8>) {
-    match random.between(1, 20) {
+    match random.between(1, 23) {
         1..=2 => file_length(random, file),
         3..=4 => counts(random, file),
         5..=8 => sections(random, plan, file),
         9 => head_kind(random, file),
-        10..=13 => header_number(random, plan, file),
-        14..=15 => course_number(random, plan, file),
-        16..=17 => deadwood_number(random, plan, file),
-        _ => lengths_not_adding_up(random, plan, file),
+        10..=14 => header_number(random, plan, file),
+        15..=17 => course_number(random, plan, file),
+        18..=20 => deadwood_number(random, plan, file),
+        _ => lengths(random, plan, file),
     }
 }
 
@@ -133,7 +134,8 @@ fn course_number(random: &mut Random, plan: &Plan, file: &mut [u8]) {
     put(file, at + within, number);
 }
 
-/// Refusal 5 in a deadwood item, often the first or the last.
+/// Refusal 5 in a deadwood item, often the first or the last. Either height can
+/// make the high height the bad number, so the volume comes as often as both.
 fn deadwood_number(random: &mut Random, plan: &Plan, file: &mut [u8]) {
     if plan.deadwood.is_empty() {
         return;
@@ -147,7 +149,7 @@ fn deadwood_number(random: &mut Random, plan: &Plan, file: &mut [u8]) {
     let high = unsigned_at(file, at + 4);
     let volume = signed_at(file, at + 8);
     let most = limits::DEADWOOD_VOLUME;
-    match random.between(1, 3) {
+    match random.between(1, 4) {
         1 => {
             let around = [high, high.wrapping_sub(1), high.wrapping_add(1)];
             let low = random.pick(&[around[0], around[1], around[2], plan.dh, 0, u32::MAX]);
@@ -172,21 +174,55 @@ fn deadwood_number(random: &mut Random, plan: &Plan, file: &mut [u8]) {
     }
 }
 
-/// Refusal 6: L1 or a course length one off, or two lengths exchanged for
-/// others with the same sum, which is sound.
-fn lengths_not_adding_up(random: &mut Random, plan: &Plan, file: &mut [u8]) {
+/// Refusal 6 and its edges: another L1 or another length of one course; or both
+/// moved alike, which leaves their difference as it was.
+fn lengths(random: &mut Random, plan: &Plan, file: &mut [u8]) {
     let index = random.index(0, plan.courses.len() - 1);
     let at = plan.course_offset() + index * COURSE_BYTES + 8;
-    let by = random.pick(&[1, u32::MAX, 1_000, 16]);
     let length = plan.courses[index].length;
-    match random.between(1, 4) {
-        1 => put(file, 8, plan.l1.wrapping_add(by)),
-        2 => {
-            put(file, 8, plan.l1.wrapping_add(by));
-            put(file, at, length.wrapping_add(by));
-        }
-        _ => put(file, at, length.wrapping_add(by)),
+    if random.one_in(6) {
+        let by = random.pick(&[1, u32::MAX, 1_000, 16]);
+        put(file, 8, plan.l1.wrapping_add(by));
+        put(file, at, length.wrapping_add(by));
+        return;
     }
+    let difference = i64::from(sum_of_lengths(&plan.courses)) - i64::from(plan.l1);
+    let grown = difference_from_l1(random, plan) - difference;
+    let other_l1 = inside(i64::from(plan.l1) - grown, limits::L1);
+    let other_length = inside(i64::from(length) + grown, limits::COURSE_LENGTH);
+    // Whichever stays inside its limits, so that this is not refusal 5.
+    match (other_l1, other_length) {
+        (Some(l1), None) => put(file, 8, l1),
+        (None, Some(length)) => put(file, at, length),
+        (Some(l1), Some(_)) if random.one_in(2) => put(file, 8, l1),
+        (Some(_), Some(length)) => put(file, at, length),
+        (None, None) => {}
+    }
+}
+
+/// A wished difference of the sum of the course lengths from L1, short or long:
+/// often one past the allowance; else at it, or one past what a single course
+/// is allowed, which is sound where there are more; or further off.
+fn difference_from_l1(random: &mut Random, plan: &Plan) -> i64 {
+    let allowance = length_allowance(&plan.courses);
+    let size = match random.between(1, 12) {
+        1..=6 => allowance + 1,
+        7 => allowance,
+        8..=9 => limits::ALLOWANCE_FOR_A_COURSE + 1,
+        10 => random.between(allowance + 2, allowance + 1_000),
+        _ => random.between(allowance + 2, 1_000_000),
+    };
+    if random.one_in(2) {
+        -i64::from(size)
+    } else {
+        i64::from(size)
+    }
+}
+
+/// The number, if it is inside its limits.
+fn inside(number: i64, limits: Limits) -> Option<u32> {
+    let number = u32::try_from(number).ok()?;
+    limits.allow(number).then_some(number)
 }
 
 /// A number at a limit, one past it, or far out.

@@ -17,6 +17,8 @@ pub fn pair_of_outer(random: &mut Random, outer: u32) -> (u32, u32) {
 
 /// Gives the courses circumferences for the outer diameter. Mostly each course
 /// has exactly that diameter; else they differ and only their mean is near it.
+/// The mean goes by the sum of the lengths, so that courses alike in diameter
+/// give that diameter whether or not their lengths add up to L1.
 pub fn courses_of_outer(random: &mut Random, courses: &mut [Course], outer: u32) {
     let spread = random.pick(&[0, 0, 0, outer / 100]);
     let sum = sum_of_outer(random, outer);

@@ -2,6 +2,7 @@
 //! diameter and a wide step, so that their tables are quickly made.
 
 use super::diameters::{courses_of_outer, pair_of_outer};
+use super::lengths;
 use super::plan::{Layout, Plan};
 use crate::deadwood::Deadwood;
 use crate::dimensions::wall;
@@ -116,8 +117,7 @@ fn step(random: &mut Random) -> u32 {
     }
 }
 
-/// Courses whose lengths add up to L1, with thicknesses and no
-/// circumferences yet.
+/// Courses with lengths and thicknesses, and no circumferences yet.
 fn bare_courses(random: &mut Random, l1: u32) -> Vec<Course> {
     let count = match random.between(1, 10) {
         1..=4 => 1,
@@ -126,20 +126,9 @@ fn bare_courses(random: &mut Random, l1: u32) -> Vec<Course> {
         _ => random.between(1, limits::COURSE_COUNT.high),
     };
     let thickness = in_limits(random, limits::THICKNESS);
-    let mut rest = l1;
-    let mut courses = Vec::new();
-    for left_over in (0..count).rev() {
-        // Every later course still needs a length of at least 1.
-        let most = rest - left_over;
-        let length = if left_over == 0 {
-            rest
-        } else if random.one_in(10) {
-            1
-        } else {
-            random.between(1, most.min(2 * rest / (left_over + 1)))
-        };
-        rest -= length;
-        courses.push(Course {
+    lengths::near_l1(random, l1, count)
+        .into_iter()
+        .map(|length| Course {
             first: 0,
             second: 0,
             length,
@@ -148,9 +137,8 @@ fn bare_courses(random: &mut Random, l1: u32) -> Vec<Course> {
             } else {
                 thickness
             },
-        });
-    }
-    courses
+        })
+        .collect()
 }
 
 fn deadwood_count(random: &mut Random) -> usize {

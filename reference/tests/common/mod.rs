@@ -24,6 +24,18 @@ pub fn paper_survey() -> Vec<u8> {
     file
 }
 
+/// The paper's survey with this L1 and courses of these lengths, otherwise like
+/// its course, from byte 48.
+pub fn paper_survey_of(l1: u32, lengths: &[u32]) -> Vec<u8> {
+    let mut file = bytes_of(&PAPER_HEADER);
+    put(&mut file, 8, l1);
+    put(&mut file, 32, lengths.len() as u32);
+    for &length in lengths {
+        file.extend(bytes_of(&[160_221, 160_221, length, 500]));
+    }
+    file
+}
+
 /// The paper's survey with deadwood behind the course, at byte 64.
 pub fn paper_survey_with(deadwood: &[(u32, u32, i32)]) -> Vec<u8> {
     let mut file = paper_survey();

@@ -12,7 +12,6 @@ use Rattle.survey.specs.Dimensions.{shellDiameter, d1, d2, diameterFits}
 use Rattle.survey.specs.Sentence.{ofShellDiameter, ofHeadDiameter}
 use Rattle.survey.specs.Fault.{faultWith, diameterFault}
 use Rattle.survey.specs.JudgedLaws.{told-outside, told-within}
-use Rattle.survey.specs.SurveyLaws.{file-sums-fit}
 use Rattle.survey.specs.DimensionLaws.{diameters-small}
 use borrow.Author.Needs.{needs}
 use Rattle.survey.proofs.fault.diameter_fault.Statement.{statement}
@@ -21,27 +20,16 @@ use Rattle.survey.proofs.fault.diameter_fault.Tie as tie
 -- the two diameters, and what measuring the first told, in the definition's terms
 
 shell : (c : tie.After-shell-diameter) → let a = c .before .before .before .before .args in c .shell-diameter .result ≡ d1 (a .f) (a .s .now)
-shell c = c .shell-diameter .ensures ∙ ap shellDiameter (c .before .before .file-sums .ensures)
+shell c = c .shell-diameter .ensures ∙ ap shellDiameter (c .before .before .file-sums .ensures .0)
 
 heads : (c : tie.After-head-diameter) → let a = c .before .before .before .before .before .before .before .args in c .head-diameter .result ≡ d2 (a .f) (a .s .now)
-heads c = rw (c .before .before .before .before .before .file-sums .ensures, c .before .before .word2 .ensures, c .before .word3 .ensures) at (c .head-diameter .ensures)
+heads c = rw (c .before .before .before .before .before .file-sums .ensures .0, c .before .before .word2 .ensures, c .before .word3 .ensures) at (c .head-diameter .ensures)
 
 fits : (c : tie.After-fitting)
     → let a = c .before .before .before .before .before .before .before .before .args in
     let d = d1 (a .f) (a .s .now) in
     c .fitting .result ≡ pick (diameterFits d (word (a .s .now) dhAt)) (Within (diameter d)) Outside
 fits c = rw (shell (c .before .before .before .before), c .before .before .before .before .before .word .ensures) at (c .fitting .ensures)
-
-shell-diameter-requires : tie.Need-shell-diameter-requires
-shell-diameter-requires c κs =
-    let start = c .before .before .before in
-    rw (c .before .file-sums .ensures) (file-sums-fit (start .args .f) (start .args .s .now) (start .pre .1))
-
-head-diameter-requires : tie.Need-head-diameter-requires
-head-diameter-requires c κs =
-    let start = c .before .before .before .before .before .before in
-    let sums = file-sums-fit (start .args .f) (start .args .s .now) (start .pre .1) in
-    rw (c .before .before .before .before .file-sums .ensures) (sums .0, sums .2)
 
 -- both are small
 small : (c : tie.After-fitting) → (c .before .before .before .before .shell-diameter .result < 2 ^ 63) × (c .before .head-diameter .result < 2 ^ 63)
@@ -72,6 +60,6 @@ returns-2 c =
 pub diameter-fault-spec : {M : Type 1} → statement M
 diameter-fault-spec =
     tie.close
-    (tie.spec (λ c κs. search needs) (λ c κs. search needs) shell-diameter-requires (λ c κs. search needs)
-    (λ c κs. search needs) head-diameter-requires (λ c κs. search needs) (λ c. search needs)
+    (tie.spec (λ c κs. search needs) (λ c κs. search needs) (λ c κs. search needs) (λ c κs. search needs)
+    (λ c κs. search needs) (λ c κs. search needs) (λ c κs. search needs) (λ c. search needs)
     (λ c κs. omega (arith, small (c .before .before))) (λ c. search needs) (λ c κs. omega (arith, small (c .before .before))) returns returns-2)
