@@ -1,5 +1,5 @@
 -- Laws of verdicts: over two lists in a row, over tests taken in turn, over items each with tests of its own, and what a verdict that
--- refuses nothing says of every test. Assumes nothing.
+-- refuses nothing says of every test; and what the tests of a number say. Assumes nothing.
 use Prim.Native.Nat.{ℕ, zero, suc, _+_, _-_, _≤_, _<_}
 use mathlib.Core.Path.{_≡_, refl, sym, _∙_, ap₂}
 use mathlib.Core.Bool.{Bool, true, false, _&&_}
@@ -101,12 +101,12 @@ within-pass low x high e =
     let both = both-pass (leb low x) (leb x high) e in
     (leb-true low x (both .0), leb-true x high (both .1))
 
--- two numbers are near when the difference between them is, whichever is the larger
-pub near-difference : (x y most : ℕ) → near x y most ≡ leb ((x - y) + (y - x)) most
-near-difference x y most =
+-- two numbers are near exactly when they differ by no more, whichever is the larger: of naturals one of the two differences is 0
+pub near-difference : (x y most d : ℕ) → d ≡ (x - y) + (y - x) → near x y most ≡ leb d most
+near-difference x y most d e =
     by-order x y
-    (λ l. rw (le-leb x (y + most) (omega arith), both-true (leb y (x + most))) (same-order y (x + most) ((x - y) + (y - x)) most (λ k. omega arith) (λ k. omega arith)))
-    (λ l. rw (le-leb y (x + most) (omega arith)) (same-order x (y + most) ((x - y) + (y - x)) most (λ k. omega arith) (λ k. omega arith)))
+    (λ l. rw (le-leb x (y + most) (omega arith), both-true (leb y (x + most))) (same-order y (x + most) d most (λ k. omega arith) (λ k. omega arith)))
+    (λ l. rw (le-leb y (x + most) (omega arith)) (same-order x (y + most) d most (λ k. omega arith) (λ k. omega arith)))
   where
     both-true : (b : Bool) → b && true ≡ b
     both-true true = refl

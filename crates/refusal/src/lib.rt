@@ -4,7 +4,7 @@ ghost use mathlib.Core.Path.{_≡_};
 ghost use mathlib.Core.List.{[], _∷_};
 ghost use Rattle.refusal.specs.Test.{test, verdict, firstRefusal};
 
-pub mod number;
+pub mod limits;
 
 pub struct Refusal {
     pub number: u32,

@@ -2,7 +2,7 @@
 use Prim.Native.Nat.{ℕ, _+_, _*_, _^_, _≤_, _<_}
 use mathlib.Core.Path.{_≡_, refl, sym}
 use mathlib.Core.Bool.{true, _&&_}
-use mathlib.Core.List.{List}
+use mathlib.Core.List.{List, _++_}
 use native.Mathlib.Nat.{mul-le-mul-left}
 use native.Mathlib.Omega.{arith}
 use lib.ListN.{length}
@@ -12,12 +12,13 @@ use Rattle.measure.specs.Pi.{piOver, piUnder}
 use Rattle.refusal.specs.declared.Verdict.{Verdict}
 use Rattle.refusal.specs.declared.Verdict.the-variants.{Passed, Refused}
 use Rattle.refusal.specs.Test.{verdict, within}
+use Rattle.refusal.specs.TestLaws.{verdict-append}
 use Rattle.survey.specs.declared.format.Format.{Format}
 use Rattle.survey.specs.Word.{word}
 use Rattle.survey.specs.Layout.{leftAt, rightAt}
 use Rattle.survey.specs.Limits.{largestFile}
 use Rattle.survey.specs.Dimensions.{sumsOf, outerDiameter, shellDiameter, headDiameter, d1, d2}
-use Rattle.survey.specs.Tests.{layoutTests, numberTests}
+use Rattle.survey.specs.Tests.{layoutTests, numberTests, dimensionTests, fileTests}
 use Rattle.survey.specs.Fault.{passed, numbersPass}
 use Rattle.survey.specs.SectionLaws.{Readable, placed-file}
 use Rattle.survey.specs.SurveyLaws.{NumbersFit, file-sums-fit, ends-fit}
@@ -26,15 +27,30 @@ pub passed-verdict : (v : Verdict) → passed v ≡ true → v ≡ Passed
 passed-verdict Passed e = refl
 passed-verdict (Refused r) e = absurd (true-not-false (sym e))
 
-pub numbers-pass : (f : Format) (s : List ℕ) → numbersPass f s ≡ true → Readable f → NumbersFit f s
-unfolding numbersPass
-numbers-pass f s e readable =
-    let size = both-pass (within (f .header) (length s) largestFile) (passed (verdict (layoutTests f s)) && passed (verdict (numberTests f s))) e in
-    let both = both-pass (passed (verdict (layoutTests f s))) (passed (verdict (numberTests f s))) (size .1) in
-    record {
-      placed = placed-file f s readable (size .0) (passed-verdict (verdict (layoutTests f s)) (both .0));
-      numbers = passed-verdict (verdict (numberTests f s)) (both .1);
-    }
+-- where refusals 1 to 5 are not given ..
+module _ (f : Format) (s : List ℕ) (e : numbersPass f s ≡ true) where
+  each-passes : (within (f .header) (length s) largestFile ≡ true) × (verdict (layoutTests f s) ≡ Passed) × (verdict (numberTests f s) ≡ Passed)
+  unfolding numbersPass
+  each-passes =
+      let size = both-pass (within (f .header) (length s) largestFile) (passed (verdict (layoutTests f s)) && passed (verdict (numberTests f s))) e in
+      let both = both-pass (passed (verdict (layoutTests f s))) (passed (verdict (numberTests f s))) (size .1) in
+      (size .0, passed-verdict (verdict (layoutTests f s)) (both .0), passed-verdict (verdict (numberTests f s)) (both .1))
+
+  -- .. all that they ask holds
+  pub numbers-pass : Readable f → NumbersFit f s
+  numbers-pass readable = record { placed = placed-file f s readable (each-passes .0) (each-passes .1); numbers = each-passes .2 }
+
+  -- .. and 6 and 7 are the verdict
+  pub dimensions-decide : verdict (fileTests f s) ≡ verdict (dimensionTests f s)
+  unfolding fileTests
+  dimensions-decide =
+      rw (
+        each-passes .0,
+        verdict-append (layoutTests f s) (numberTests f s ++ dimensionTests f s),
+        each-passes .1,
+        verdict-append (numberTests f s) (dimensionTests f s),
+        each-passes .2,
+      )
 
 -- D1 and D2 are no more than what they are made of
 

@@ -38,7 +38,8 @@ About s number place fault = (decoded s .verdict ≡ Refused (refusal number pla
 abbrev volumeTooLow : Fault
 volumeTooLow = record { sentence = 18; item = 2; value = negℤ (pos 10000001); low = negℤ (pos 10000000); high = pos 10000000 }
 
--- DH, a count, the deadwood from the courses' last byte on, the sum of the lengths one too short and one too long, D1, item 2's high height above DH and its volume
+-- DH, a count, the deadwood from the courses' last byte on, the sum of the lengths one too short and one too long, D1, item 2's high height
+-- above DH and its volume
 pub changed-words : About (file 49999 1 64 160221 100000 400 5) 5 4 (faultWith 1 0 49999 50000 500000)
     × About (file 50000 41 64 160221 100000 400 5) 2 0 (faultWith 8 0 41 1 40)
     × About (file 50000 1 63 160221 100000 400 5) 3 0 (faultWith 21 2 63 0 0)

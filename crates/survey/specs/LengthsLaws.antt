@@ -2,33 +2,30 @@
 -- by more than 100 u for each course; and the limits that it names are those of that test. Assumes nothing.
 use Prim.Native.Nat.{ℕ, _+_, _*_, _-_, _<_}
 use mathlib.Core.Path.{_≡_, refl, sym, _∙_, ap}
-use mathlib.Core.Bool.{Bool, true, false, _&&_}
-use mathlib.Core.List.{List, _++_}
+use mathlib.Core.Bool.{Bool, true, false}
+use mathlib.Core.List.{List}
 use native.Mathlib.Omega.{arith}
 use borrow.Author.Tests.{leb-false, lt-leb, le-leb}
 use lib.Dec.{leb}
 use lib.IntN.{natAbs}
-use lib.ListN.{length}
-use Rattle.laws.specs.BoolLaws.{both-pass}
 use Rattle.laws.specs.Exactly.{Exactly}
 use Rattle.laws.specs.Order.{pick}
 use Rattle.refusal.specs.declared.Verdict.{Verdict}
 use Rattle.refusal.specs.declared.Verdict.the-variants.{Passed, Refused}
 use Rattle.refusal.specs.Test.{refusal, verdict, within}
-use Rattle.refusal.specs.TestLaws.{verdict-append, near-difference, near-within}
+use Rattle.refusal.specs.TestLaws.{near-difference, near-within}
 use Rattle.survey.specs.declared.dimensions.Sums.{Sums}
 use Rattle.survey.specs.declared.format.Format.{Format}
 use Rattle.survey.specs.Word.{word}
 use Rattle.survey.specs.Layout.{today, dhAt, l1At}
-use Rattle.survey.specs.Limits.{largestFile}
 use Rattle.survey.specs.Section.{courses}
 use Rattle.survey.specs.Dimensions.{sumsOf, allowance, lengthsFit, d1, d2, diametersFit}
-use Rattle.survey.specs.Tests.{layoutTests, numberTests, dimensionTests, fileTests}
+use Rattle.survey.specs.Tests.{dimensionTests}
 use Rattle.survey.specs.Survey.{decoded}
-use Rattle.survey.specs.Fault.{passed, numbersPass, lengthsFault}
+use Rattle.survey.specs.Fault.{numbersPass, lengthsFault}
 use Rattle.survey.specs.SurveyLaws.{file-sums, today-readable}
 use Rattle.survey.specs.NumberedLaws.{decoded-verdict}
-use Rattle.survey.specs.DimensionLaws.{passed-verdict, numbers-pass}
+use Rattle.survey.specs.DimensionLaws.{numbers-pass, dimensions-decide}
 
 -- by how much the sum of the course lengths misses L1, whichever is the larger
 abbrev pub missed : Format → List ℕ → ℕ
@@ -36,16 +33,6 @@ missed f s =
     let sum = sumsOf f s .lengths in
     let l1 = word s l1At in
     (sum - l1) + (l1 - sum)
-
--- where refusals 1 to 5 are not given, 6 and 7 are the verdict
-dimensions-decide : (f : Format) (s : List ℕ) → numbersPass f s ≡ true → verdict (fileTests f s) ≡ verdict (dimensionTests f s)
-unfolding numbersPass fileTests
-dimensions-decide f s e =
-    let size = both-pass (within (f .header) (length s) largestFile) (passed (verdict (layoutTests f s)) && passed (verdict (numberTests f s))) e in
-    let both = both-pass (passed (verdict (layoutTests f s))) (passed (verdict (numberTests f s))) (size .1) in
-    let layout = passed-verdict (verdict (layoutTests f s)) (both .0) in
-    let numbers = passed-verdict (verdict (numberTests f s)) (both .1) in
-    rw (size .0, verdict-append (layoutTests f s) (numberTests f s ++ dimensionTests f s), layout, verdict-append (numberTests f s) (dimensionTests f s), numbers)
 
 -- refusal 6 is none of those behind it
 
@@ -64,7 +51,7 @@ module _ (s : List ℕ) (e : numbersPass today s ≡ true) where
 
   tested : lengthsFit (sumsOf today s) (word s l1At) ≡ leb (missed today s) (allowance (sumsOf today s))
   unfolding lengthsFit
-  tested = let t = sumsOf today s in near-difference (t .lengths) (word s l1At) (allowance t)
+  tested = let t = sumsOf today s in near-difference (t .lengths) (word s l1At) (allowance t) (missed today s) refl
 
   -- the sums are those of as many courses
   count : sumsOf today s .count ≡ courses today s .count

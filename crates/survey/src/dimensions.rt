@@ -23,7 +23,7 @@ use measure::diameter::Measured;
 use measure::pi::PI_OVER;
 use measure::pi::PI_UNDER;
 use refusal::Refusal;
-use refusal::number::is_near;
+use refusal::limits::is_near;
 
 // What the dimensions are made of, summed over courses.
 pub struct Sums {

@@ -31,7 +31,7 @@ use crate::word::word;
 use measure::diameter::Diameter;
 use measure::diameter::Measured;
 use refusal::Verdict;
-use refusal::number::is_within;
+use refusal::limits::is_within;
 
 pub struct Fault {
     // the sentence's place in the list of sentences

@@ -22,7 +22,7 @@ use crate::section::layout_tested;
 use crate::word::word;
 use refusal::Refusal;
 use refusal::Verdict;
-use refusal::number::is_within;
+use refusal::limits::is_within;
 
 // The sums over all courses of a file that passes refusals 1 to 5.
 pub fn file_sums(f: Format, s: &[u8]) -> Sums

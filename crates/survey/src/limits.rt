@@ -7,8 +7,8 @@ ghost use Rattle.refusal.specs.Test.{verdict, firstRefusal};
 ghost use Rattle.survey.specs.Tests.{limit};
 use crate::word::word;
 use refusal::Verdict;
+use refusal::limits::is_within;
 use refusal::next_test;
-use refusal::number::is_within;
 
 // A file's size in bytes.
 pub const LARGEST_FILE: usize = 65_536;

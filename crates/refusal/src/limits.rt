@@ -1,4 +1,4 @@
-// The tests of a number: within limits, and not far from another.
+// The tests of a number: within its limits, and not far from another.
 ghost use mathlib.Core.Path.{_≡_};
 ghost use Rattle.refusal.specs.Test.{within, near};
 

@@ -1,7 +1,7 @@
--- `refusal::number::is_within` meets its contract: the definition's two tests, one after the other. Assumes nothing.
+-- `refusal::limits::is_within` meets its contract: the definition's two tests, one after the other. Assumes nothing.
 use borrow.Author.Tests.{le-leb, lt-leb}
-use Rattle.refusal.proofs.number.is_within.Statement.{statement}
-use Rattle.refusal.proofs.number.is_within.Tie as tie
+use Rattle.refusal.proofs.limits.is_within.Statement.{statement}
+use Rattle.refusal.proofs.limits.is_within.Tie as tie
 
 returns : tie.Need-returns
 returns c = rw (le-leb _ _ (c .if1 .taken))
