@@ -27,7 +27,7 @@ abbrev pub concat : List ℕ → List ℕ
 concat [] = []
 concat (n ∷ ns) = bytes n ++ concat ns
 
--- with courses of these lengths, each as round and as thick as its one course
+-- with courses of these lengths in place of its one, each as round and as thick
 abbrev pub sixRowsOf : List ℕ → List ℕ
 sixRowsOf lengths =
     concat (0 ∷ 50000 ∷ 100000 ∷ 160221 ∷ 160221 ∷ 0 ∷ 0 ∷ 10000 ∷ length lengths ∷ 48 ∷ 0 ∷ 0 ∷ courses lengths)
@@ -53,15 +53,21 @@ sixRowsSurvey =
 abbrev pub SixRows : List ℕ → Type 0
 SixRows s = decoded s ≡ decodedBy Passed sixRowsSurvey
 
-pub six-rows-decoded : SixRows sixRows
-unfolding rowsOf nearest items kindKnown kindOf lengthFits word signedWord countFits placed apart sumOf sumsOver lengthsFit outerDiameter wall shellDiameter headDiameter diameterFits layoutTests headerTests courseTests itemTests dimensionTests fileTests decoded
-six-rows-decoded = refl
-
--- courses that miss by a hair (document 02, E1): 100 u for each of them, short and long. D1 goes by the sum of the lengths, and the shell
--- is L1 long all the same
-pub missing-courses-decoded : SixRows (sixRowsOf (99900 ∷ []))
+-- courses that miss by a hair (document 02, E1): 100 u for each of them, short and long
+abbrev pub MissingCourses : Type 0
+MissingCourses =
+    SixRows (sixRowsOf (99900 ∷ []))
     × SixRows (sixRowsOf (100100 ∷ []))
     × SixRows (sixRowsOf (50000 ∷ 49800 ∷ []))
     × SixRows (sixRowsOf (60000 ∷ 30000 ∷ 10300 ∷ []))
+
+all-decoded : SixRows sixRows × MissingCourses
 unfolding rowsOf nearest items kindKnown kindOf lengthFits word signedWord countFits placed apart sumOf sumsOver lengthsFit outerDiameter wall shellDiameter headDiameter diameterFits layoutTests headerTests courseTests itemTests dimensionTests fileTests decoded
-missing-courses-decoded = (refl, refl, refl, refl)
+all-decoded = (refl, (refl, refl, refl, refl))
+
+pub six-rows-decoded : SixRows sixRows
+six-rows-decoded = all-decoded .0
+
+-- D1 goes by the sum of the lengths, and the shell is L1 long all the same
+pub missing-courses-decoded : MissingCourses
+missing-courses-decoded = all-decoded .1
