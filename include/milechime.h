@@ -45,12 +45,15 @@ extern "C" {
  *       count not 0 to 64                                        0
  *   3   courses or deadwood start before byte 48, end outside
  *       the survey, or overlap                                   0
- *   4   the head kind is not 0 (flat) or 1 (half-ellipsoid)      0
+ *   4   the head kind is not 0 (flat), 1 (half-ellipsoid) or
+ *       2 (spherical cap)                                        0
  *   5   another number of the survey is outside its limits       its byte offset
  *   6   the sum of the course lengths and the shell length L1
  *       differ, either way, by more than 100 for each course     0
  *   7   a diameter, D1 or D2, is outside 50,000 to 500,000 or
  *       more than 10,000 away from DH                            0
+ *  14   the heads are spherical caps and twice their length L3
+ *       exceeds D2                                               0
  *   8   the lent table is shorter than the row count             0
  *   9   a row is below the row before                            its index
  *  10   a row is below zero: cannot occur, since row 0 never is
@@ -64,7 +67,7 @@ extern "C" {
 
 /* The answer to milechime_table. */
 struct milechime_table_answer {
-    uint32_t refusal; /* 0, or 1 to 9 */
+    uint32_t refusal; /* 0, 1 to 9 or 14 */
     uint32_t place;   /* of the refusal */
     uint32_t d1;      /* inner diameter of the shell, u */
     uint32_t d2;      /* inner diameter of flanges and heads, u */
@@ -77,7 +80,7 @@ struct milechime_table_answer {
  * from table[0] on; cells behind them are untouched, and so is the whole
  * table in a refusal. MILECHIME_MOST_ROWS cells are enough for every survey.
  * No row is below the row before, and a survey without deadwood that passes
- * 1 to 8 always gets its table.
+ * 1 to 8 and 14 always gets its table.
  */
 struct milechime_table_answer milechime_table(
     const uint8_t *survey, size_t survey_length,

@@ -3,7 +3,8 @@
 # can't name a shell height (tests/compiler.sh tries both). What the compiler can't hold is looked for here, in the sources:
 #   rule 1: a crate that can name a shell height can't make a dip height of a number; it calls no `DipHeight::..` and lists no crate that does;
 #   rule 2: a shell height's number is asked for in `circle` and `heads` alone, and in no file that names a dip height;
-#   rule 3: what takes a shell height gives a walk or a volume, no other type holds one, and a walk's level is read in `walked` alone;
+#   rule 3: what takes a shell height gives a walk (up a circle or up a dome) or a volume, no other type holds one, and a walk's level is read in
+#           `walked` alone;
 #   rule 4: neither type goes by another name or is passed on.
 # Says what it looked at; a sample that breaks each rule is seen to be found.
 . "$(dirname "$0")/failures.sh"
@@ -41,7 +42,7 @@ others() {
             inside = 0
             split(text, side, "->")
             takes = side[1] ~ /[^A-Za-z0-9_]ShellHeight/ || type == "ShellHeight" && side[1] ~ /[(, ]self[,)]/
-            if (takes && side[2] !~ /^ *(Walk|Volume) *\{?$/ && text !~ /fn shell_units\(self\)/) print FILENAME ": a shell height taken:" text
+            if (takes && side[2] !~ /^ *(Walk|DomeWalk|Volume) *\{?$/ && text !~ /fn shell_units\(self\)/) print FILENAME ": a shell height taken:" text
         }
         /^impl / { type = $2 }
         /^}/ { type = "" }

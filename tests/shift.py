@@ -4,44 +4,12 @@ words, each refusal in words, several figures in a call. Runs target/bin/tanktab
 """
 import os
 import signal
-import struct
 import subprocess
-import sys
 import tempfile
 import threading
 import time
-from pathlib import Path
 
-ROOT = Path(__file__).resolve().parent.parent
-TABLE = ROOT / "target/bin/tanktable"
-LOOKUP = ROOT / "target/bin/tanklookup"
-SIX_ROWS = (ROOT / "examples/six_rows.survey").read_bytes()
-
-checks = failures = 0
-
-
-def same(what, expected, found):
-    """One check: what is shown, what was expected, what came."""
-    global checks, failures
-    checks += 1
-    if expected != found:
-        failures += 1
-        print(f"FAILED: {what}\n  expected {expected!r}\n  found    {found!r}")
-
-
-def run(program, *words, survey=SIX_ROWS):
-    """What a program writes to standard output and to standard error; its exit status is always 0."""
-    done = subprocess.run([program, *words], input=survey, capture_output=True, timeout=60)
-    same(f"exit status of {program.name} {' '.join(words)}", 0, done.returncode)
-    return done.stdout.decode(), done.stderr.decode()
-
-
-def survey(*, kind=0, dh=50_000, l1=100_000, left=160_221, right=160_221, l2=0, l3=0, step=10_000, courses=None, deadwood=(), places=None):
-    """A survey's bytes, the six rows' where nothing else is said. `places` are the two sections' byte offsets."""
-    courses = [(160_221, 160_221, 100_000, 500)] if courses is None else courses
-    at = places or (48, 48 + 16 * len(courses))
-    head = struct.pack("<12I", kind, dh, l1, left, right, l2, l3, step, len(courses), at[0], len(deadwood), at[1])
-    return head + b"".join(struct.pack("<4I", *c) for c in courses) + b"".join(struct.pack("<2Ii", *d) for d in deadwood)
+from surveys import LOOKUP, ROOT, SIX_ROWS, TABLE, run, same, survey, try_all
 
 
 def with_lengths(lengths):
@@ -191,7 +159,8 @@ def refusals():
         (survey(places=(48, 65), deadwood=[(0, 1, 1)]), 3, 0,
          "byte offset of the deadwood 65: its 1 records must start at byte 48 or later and end inside the file of 76 bytes"),
         (survey(places=(48, 60), deadwood=[(0, 1, 1)]), 3, 0, "byte offset of the deadwood 60: its 1 records must not overlap the courses"),
-        (survey(kind=2), 4, 0, "head kind 2: must be 0 (flat) or 1 (half-ellipsoid)"),
+        (survey(kind=3), 4, 0, "head kind 3: must be 0 (flat), 1 (half-ellipsoid) or 2 (spherical cap)"),
+        (survey(kind=4_294_967_295), 4, 0, "head kind 4294967295: must be 0 (flat), 1 (half-ellipsoid) or 2 (spherical cap)"),
         (survey(dh=49_999), 5, 4, "dip diameter DH 49999 (499.99 mm): must be 50000 to 500000"),
         (survey(l1=3_000_001), 5, 8, "shell length L1 3000001 (30,000.01 mm): must be 100000 to 3000000"),
         (survey(left=0), 5, 12, "circumference left 0 (0.00 mm): must be 150000 to 1600000"),
@@ -199,6 +168,8 @@ def refusals():
         (survey(l2=20_001), 5, 20, "flange length L2 20001 (200.01 mm): must be 0 to 20000"),
         (survey(l3=5), 5, 24, "head length L3 5 (0.05 mm): must be 0 to 0 for this kind of head"),
         (survey(kind=1), 5, 24, "head length L3 0 (0.00 mm): must be 1 to 260000 for this kind of head"),
+        (survey(kind=2), 5, 24, "head length L3 0 (0.00 mm): must be 1 to 260000 for this kind of head"),
+        (survey(kind=2, l3=260_001), 5, 24, "head length L3 260001 (2,600.01 mm): must be 1 to 260000 for this kind of head"),
         (survey(step=4_294_967_295), 5, 28, "step 4294967295 (42,949,672.95 mm): must be 100 to 10000"),
         (survey(courses=[low]), 5, 48, "course 1, first circumference 149999 (1,499.99 mm): must be 150000 to 1600000"),
         (survey(courses=four[:3] + [(160_221, 1, 25_000, 500)]), 5, 100, "course 4, second circumference 1 (0.01 mm): must be 150000 to 1600000"),
@@ -224,6 +195,20 @@ def refusals():
         (survey(courses=[(200_000, 200_000, 100_000, 500)]), 7, 0,
          "shell diameter D1 62662 (626.62 mm): must be 50000 to 500000 and at most 10000 from DH 50000"),
         (survey(left=157_000, right=157_000), 7, 0, "head diameter D2 48975 (489.75 mm): must be 50000 to 500000 and at most 10000 from DH 50000"),
+        (survey(kind=2, l3=25_001, l1=3_000_000), 6, 0,
+         "sum of the course lengths 100000 (1,000.00 mm): must be 2999900 to 3000100, the shell length L1 give or take 100 for each course"),
+        (survey(kind=2, l3=25_001, courses=[(200_000, 200_000, 100_000, 500)]), 7, 0,
+         "shell diameter D1 62662 (626.62 mm): must be 50000 to 500000 and at most 10000 from DH 50000"),
+        (survey(kind=2, l3=25_001, left=157_000, right=157_000), 7, 0,
+         "head diameter D2 48975 (489.75 mm): must be 50000 to 500000 and at most 10000 from DH 50000"),
+        (survey(kind=2, l3=25_001), 14, 0,
+         "head length L3 25001 (250.01 mm): must be at most 25000 for spherical caps, half the head diameter D2 50000"),
+        (survey(kind=2, l3=25_001, left=160_224, right=160_225), 14, 0,
+         "head length L3 25001 (250.01 mm): must be at most 25000 for spherical caps, half the head diameter D2 50001"),
+        (survey(kind=2, l3=260_000), 14, 0,
+         "head length L3 260000 (2,600.00 mm): must be at most 25000 for spherical caps, half the head diameter D2 50000"),
+        (survey(kind=2, l3=25_001, deadwood=[(0, 5_000, 4_000)]), 14, 0,
+         "head length L3 25001 (250.01 mm): must be at most 25000 for spherical caps, half the head diameter D2 50000"),
         (survey(deadwood=[(0, 5_000, 4_000)]), 9, 1,
          "row 1 at dip height 10000 (100.00 mm): must not be below the row before; the deadwood is larger than the room there"),
     ]:
@@ -244,9 +229,17 @@ def courses():
         same(f"courses that miss by {missed}, {len(lengths)} of them", table, run(TABLE, survey=with_lengths(lengths)))
 
 
-for part in (outputs, inputs, words, figures, refusals, courses):
-    before = checks
-    part()
-    print(f"{part.__name__}: {checks - before} checks")
-print(f"{checks} checks of the programs on the shift, {failures} failed")
-sys.exit(1 if failures else 0)
+def heads():
+    """Spherical caps up to half as long as D2 get their table; the diameter is no limit to half-ellipsoids."""
+    for what, data in [
+        ("caps half as long as D2", survey(kind=2, l3=25_000)),
+        ("caps half as long as D2 but for one u", survey(kind=2, l3=25_000, left=160_224, right=160_225)),
+        ("caps one u long", survey(kind=2, l3=1)),
+        ("half-ellipsoids longer than half of D2", survey(kind=1, l3=25_001)),
+        ("the longest half-ellipsoids", survey(kind=1, l3=260_000)),
+    ]:
+        table, said = run(TABLE, survey=data)
+        same(what, ("rows 6", ""), (table.partition("\n")[0], said))
+
+
+try_all("the programs on the shift", outputs, inputs, words, figures, refusals, courses, heads)

@@ -78,7 +78,7 @@ def examples(folder: Path) -> None:
             shutil.copy(file, to)
         return to
 
-    check("seven surveys and six TOML files", (7, 6), (len(list(EXAMPLES.glob("*.survey"))), len(list(EXAMPLES.glob("*.toml")))))
+    check("eight surveys and seven TOML files", (8, 7), (len(list(EXAMPLES.glob("*.survey"))), len(list(EXAMPLES.glob("*.toml")))))
     check("the examples agree both ways", [], disagreements(copy("as they are")))
     changed = copy("a byte changed")
     data = bytearray((changed / "falling_row.survey").read_bytes())
@@ -125,7 +125,7 @@ def written(keys: list[str], record: list[int], dice: random.Random) -> list[str
     for key, word in zip(keys, record):
         value = figure(word, dice)
         if key == "head_kind":
-            value = dice.choice([str(word), *{0: ['"flat"'], 1: ["'half-ellipsoid'"]}.get(word, [])])
+            value = dice.choice([str(word), *{0: ['"flat"'], 1: ["'half-ellipsoid'"], 2: ['"spherical-cap"']}.get(word, [])])
         lines.append(dice.choice(["{} = {}", "  {}={} # [[course]]", '"{}" = {}', "'{}'\t= {}", "\n# = [\n{} = {}"]).format(key, value))
     dice.shuffle(lines)
     return lines
@@ -136,7 +136,7 @@ def random_surveys(folder: Path) -> None:
     dice = random.Random(20)
     tried = {"made": 0, "shown": 0, "made again": 0}
     for _ in range(40):
-        header = [dice.choice([0, 1, 2, 2**32 - 1]), *words(0, 2**32 - 1, 7, dice)]
+        header = [dice.choice([0, 1, 2, 3, 2**32 - 1]), *words(0, 2**32 - 1, 7, dice)]
         courses = [words(0, 2**32 - 1, 4, dice) for _ in range(dice.choice([0, 1, 2, 5]))]
         deadwood = [words(0, 2**32 - 1, 2, dice) + words(-(2**31), 2**31 - 1, 1, dice) for _ in range(dice.choice([0, 0, 1, 3]))]
         lines = written(HEADER, header, dice)
@@ -153,7 +153,7 @@ def random_surveys(folder: Path) -> None:
         survey.write_bytes(data)
         shown = run("show", survey)
         told = values(shown.stdout)
-        kind = {"flat": 0, "half-ellipsoid": 1}.get(told["head_kind"], told["head_kind"])
+        kind = {"flat": 0, "half-ellipsoid": 1, "spherical-cap": 2}.get(told["head_kind"], told["head_kind"])
         same = [kind, *(told[key] * 100 for key in HEADER[1:])] == header and list(told)[: len(HEADER)] == HEADER
         same = same and [[item[key] * 100 for key in COURSE] for item in told.get("course", [])] == courses
         same = same and [[item[key] * 100 for key in DEADWOOD] for item in told.get("deadwood", [])] == deadwood
@@ -189,7 +189,7 @@ high_height = 1
 volume = -21_474_836.48
 """
 BRACKETS = "{0} must be written as tables that each start with [[{0}]], in double brackets"
-KIND = 'head_kind must be "flat", "half-ellipsoid" or a whole number'
+KIND = 'head_kind must be "flat", "half-ellipsoid", "spherical-cap" or a whole number'
 LENGTH = "does not fit its 32 bits: 0.00 to 42949672.95"
 VOLUME = "does not fit its 32 bits: -21474836.48 to 21474836.47"
 # what is tried, what of TANK is replaced by what, and what is told after the file's name

@@ -31,7 +31,7 @@ class Field(NamedTuple):
 
 # The file's numbers in their order. After the header's stand, for each section, its count and its byte offset.
 HEADER = (
-    Field("head_kind", "I", "kind", "flat or half-ellipsoid"),
+    Field("head_kind", "I", "kind", "flat, half-ellipsoid or spherical-cap"),
     Field("dip_diameter", "I", "mm", "DH, mm"),
     Field("shell_length", "I", "mm", "L1, mm"),
     Field("circumference_left", "I", "mm", "outer, at the left shell end, mm"),
@@ -53,7 +53,7 @@ SECTIONS = {
         Field("volume", "i", "litres", "litres that it takes away; below zero, that it adds"),
     ),
 }
-HEAD_KINDS = ("flat", "half-ellipsoid")  # a kind's number is its place here; a kind without a name is written as a number
+HEAD_KINDS = ("flat", "half-ellipsoid", "spherical-cap")  # a kind's number is its place here; a kind without a name is written as a number
 BOUNDS = {"I": (0, 2**32 - 1), "i": (-(2**31), 2**31 - 1)}
 TOML_TYPES = {str: "a text", bool: "true or false", list: "an array", dict: "a table"}
 BRACKETS = "{0} must be written as tables that each start with [[{0}]], in double brackets"

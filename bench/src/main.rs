@@ -1,6 +1,10 @@
-//! How long tables take, by the proved library and by the reference. Nothing is
-//! held to a time. With the word `survey` it writes the largest survey instead.
+//! How long tables take, by the proved library and by the reference, and those
+//! with spherical caps against plain Rust. Nothing is held to a time. With the
+//! word `survey` it writes the largest survey instead.
 
+mod caps;
+mod domes;
+mod float_root;
 mod tanks;
 mod timing;
 
@@ -15,15 +19,17 @@ use timing::{median, milliseconds, nanoseconds_each, RUNS};
 fn main() {
     if std::env::args().nth(1).as_deref() == Some("survey") {
         let survey = tanks::largest(500_000, 100);
-        std::io::stdout().write_all(&survey).expect("standard output is closed");
+        std::io::stdout()
+            .write_all(&survey)
+            .expect("standard output is closed");
         return;
     }
-    println!("Every time is the median of {RUNS} runs; both programs are optimised, the");
-    println!("reference with overflow checks. The library walks up the shell once, D1");
-    println!("levels, and up the flanges once, D2 levels, and stops at each row. The");
-    println!("reference does not start at the bottom for each row: it lays the doubled");
-    println!("area out at every level, each with a root of its own, and picks the rows");
-    println!("from that. The time per shell level is the whole time divided by D1.\n");
+    println!("Every time is the median of {RUNS} runs where no other number is given; both");
+    println!("programs are optimised, the reference with overflow checks. The library walks");
+    println!("up the shell once, D1 levels, and up the flanges once, D2 levels, and stops at");
+    println!("each row. The reference does not start at the bottom for each row: it lays the");
+    println!("doubled area out at every level, each with a root of its own, and picks the");
+    println!("rows from that. The time per shell level is the whole time divided by D1.\n");
 
     println!("                             rows   library ms   reference ms   times as long   ns per shell level");
     both("the largest, DH 500,000", &tanks::largest(500_000, 100));
@@ -40,6 +46,8 @@ fn main() {
     for step in [10_000, 1_000, 500, 200, 100] {
         ours(&format!("{step:>8}"), &tanks::largest(500_000, step));
     }
+
+    caps::print_times();
 }
 
 /// Prints a line with the times of both.
@@ -55,7 +63,7 @@ fn both(name: &str, survey: &[u8]) {
         milliseconds(time),
         milliseconds(slower),
         slower.as_secs_f64() / time.as_secs_f64(),
-        nanoseconds_each(time, answer.d1)
+        nanoseconds_each(time, answer.d1.into())
     );
 }
 
@@ -66,7 +74,7 @@ fn ours(name: &str, survey: &[u8]) {
         "{name} {:>8} {:>8.3}   {:>18.2}",
         answer.rows,
         milliseconds(time),
-        nanoseconds_each(time, answer.d1)
+        nanoseconds_each(time, answer.d1.into())
     );
 }
 

@@ -3,37 +3,67 @@
 use reference::deadwood::Deadwood;
 use reference::generate::plan::{Layout, Plan};
 use reference::heights::DipHeight;
+use reference::limits::{FLAT, SPHERICAL_CAP};
 use reference::survey::Course;
 
 const THICKNESS: u32 = 500;
 
+/// The head kind between those two.
+const HALF_ELLIPSOID: u32 = 1;
+
 /// What the largest table is made of: every count and length at its limit.
 pub fn largest(dh: u32, step: u32) -> Vec<u8> {
-    survey(Size {
-        dh,
-        step,
-        l1: 3_000_000,
-        l2: 20_000,
-        l3: 250_000,
-        courses: 40,
-        deadwood: 64,
-    })
+    survey(largest_size(dh, step))
 }
 
 /// A tank such as stands at a filling station.
 pub fn common() -> Vec<u8> {
-    survey(Size {
-        dh: 260_000,
-        step: 1_000,
-        l1: 900_000,
-        l2: 4_000,
-        l3: 65_000,
-        courses: 6,
-        deadwood: 4,
-    })
+    survey(common_size())
 }
 
+/// A tank with spherical caps, and the same one with flat heads. Neither has
+/// deadwood, so their rows are gross and differ by the heads' rows.
+pub struct Capped {
+    pub dh: u32,
+    pub l3: u32,
+    pub step: u32,
+    pub caps: Vec<u8>,
+    pub flat: Vec<u8>,
+}
+
+/// The largest tank with spherical caps. D2 comes out as DH, so these are at
+/// most half of that long.
+pub fn largest_capped(dh: u32, l3: u32, step: u32) -> Capped {
+    capped(largest_size(dh, step), l3)
+}
+
+/// The common tank with spherical caps.
+pub fn common_capped() -> Capped {
+    let size = common_size();
+    capped(size, size.l3)
+}
+
+fn capped(size: Size, l3: u32) -> Capped {
+    let with_heads = |kind, l3| {
+        survey(Size {
+            kind,
+            l3,
+            deadwood: 0,
+            ..size
+        })
+    };
+    Capped {
+        dh: size.dh,
+        l3,
+        step: size.step,
+        caps: with_heads(SPHERICAL_CAP, l3),
+        flat: with_heads(FLAT, 0),
+    }
+}
+
+#[derive(Clone, Copy)]
 struct Size {
+    kind: u32,
     dh: u32,
     step: u32,
     l1: u32,
@@ -43,7 +73,33 @@ struct Size {
     deadwood: u32,
 }
 
-/// A survey with half-ellipsoid heads and D1 and D2 near DH.
+fn largest_size(dh: u32, step: u32) -> Size {
+    Size {
+        kind: HALF_ELLIPSOID,
+        dh,
+        step,
+        l1: 3_000_000,
+        l2: 20_000,
+        l3: 250_000,
+        courses: 40,
+        deadwood: 64,
+    }
+}
+
+fn common_size() -> Size {
+    Size {
+        kind: HALF_ELLIPSOID,
+        dh: 260_000,
+        step: 1_000,
+        l1: 900_000,
+        l2: 4_000,
+        l3: 65_000,
+        courses: 6,
+        deadwood: 4,
+    }
+}
+
+/// A survey with D1 and D2 near DH.
 fn survey(size: Size) -> Vec<u8> {
     let outer = size.dh + 2 * THICKNESS;
     // rounded down, so that no diameter passes its limit
@@ -55,7 +111,7 @@ fn survey(size: Size) -> Vec<u8> {
         thickness: THICKNESS,
     };
     let plan = Plan {
-        kind: 1,
+        kind: size.kind,
         dh: size.dh,
         l1: size.l1,
         left: circumference,

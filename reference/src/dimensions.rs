@@ -1,7 +1,7 @@
 //! "Dimensions": the inner diameters D1 (shell) and D2 (flanges and heads).
-//! Refusal 7.
+//! Refusals 7 and 14.
 
-use crate::limits::{DIAMETER, DIAMETER_FROM_DH};
+use crate::limits::{DIAMETER, DIAMETER_FROM_DH, SPHERICAL_CAP};
 use crate::numbers::nearest;
 use crate::refusal::{refuse, Refusal};
 use crate::survey::{Course, Survey};
@@ -13,16 +13,28 @@ pub struct Dimensions {
     pub d2: u32,
 }
 
-/// D1 and D2 of a survey, or refusal 7: "D1 or D2 outside 50,000 to 500,000
-/// or over 10,000 from DH".
+/// D1 and D2 of a survey, or a refusal.
 pub fn dimensions(survey: &Survey) -> Result<Dimensions, Refusal> {
-    match (
+    // Refusal 7: "D1 or D2 outside 50,000 to 500,000 or over 10,000 from DH".
+    let (Some(d1), Some(d2)) = (
         accepted_diameter(d1(survey), survey.dh),
         accepted_diameter(d2(survey), survey.dh),
-    ) {
-        (Some(d1), Some(d2)) => Ok(Dimensions { d1, d2 }),
-        _ => Err(refuse(7)),
+    ) else {
+        return Err(refuse(7));
+    };
+
+    // Refusal 14 of request E2: "when 2h exceeds D2, stands right after 7".
+    if survey.kind == SPHERICAL_CAP && survey.l3 > longest_cap(d2) {
+        return Err(refuse(14));
     }
+
+    Ok(Dimensions { d1, d2 })
+}
+
+/// The longest L3 of spherical caps: the largest h of which 2h does not exceed
+/// D2.
+pub fn longest_cap(d2: u32) -> u32 {
+    d2 / 2
 }
 
 /// "D1 is outer minus wall."

@@ -2,9 +2,11 @@
 //! always the same bytes.
 //!
 //! A case is made in three steps: a plan of a survey (sound, with diameters at
-//! their limits, or with deadwood that makes a row fall or almost fall), then
-//! none to three kinds of damage to its bytes, then a length for the table.
+//! their limits, with spherical caps as long as can be or longer, or with
+//! deadwood that makes a row fall or almost fall), then none to three kinds of
+//! damage to its bytes, then a length for the table.
 
+pub mod caps;
 pub mod damage;
 pub mod diameters;
 pub mod falling;
@@ -54,6 +56,7 @@ fn any_plan(random: &mut Random) -> Plan {
         1..=2 => diameters::at_limits(random),
         3..=5 => falling::falling(random),
         6 => sound::wild_deadwood(random),
+        7 => caps::at_longest(random),
         _ => sound::sound(random),
     }
 }
@@ -92,7 +95,7 @@ fn any_bytes(random: &mut Random) -> Case {
         for (at, number) in [(32, 1), (36, 48), (40, deadwood_count), (44, 64)] {
             plan::put(&mut survey, at, number);
         }
-        let kind = random.between(0, 2);
+        let kind = random.between(0, 3);
         plan::put(&mut survey, 0, kind);
     }
     Case {

@@ -1,7 +1,7 @@
 //! A second, independent program for dip tables of level, round tanks.
 //!
-//! It is written from the scope paper and request E1 of the paper on later
-//! changes alone, and aims at being easy to compare with them, sentence by
+//! It is written from the scope paper and requests E1 and E2 of the paper on
+//! later changes alone, and aims at being easy to compare with them, sentence by
 //! sentence. Sentences in quotation marks are taken from the papers. What the
 //! programs print beside that, and their sentences for refusals, are those of
 //! their users' documents.
@@ -11,8 +11,10 @@
 
 pub mod big;
 pub mod bytes;
+pub mod caps;
 pub mod deadwood;
 pub mod dimensions;
+pub mod domes;
 pub mod generate;
 pub mod given;
 pub mod gross;

@@ -1,5 +1,5 @@
-//! The limits in the paper's tables under "The survey file", and the allowance
-//! of request E1.
+//! The limits in the paper's tables under "The survey file", the allowance of
+//! request E1 and the head kind of request E2.
 
 /// "A header of 48 bytes".
 pub const HEADER_BYTES: usize = 48;
@@ -27,16 +27,22 @@ const fn limits(low: u32, high: u32) -> Limits {
     Limits { low, high }
 }
 
+/// The head kinds; 1 is the half-ellipsoid.
+pub const FLAT: u32 = 0;
+pub const SPHERICAL_CAP: u32 = 2;
+
 pub const COURSE_COUNT: Limits = limits(1, 40);
 pub const DEADWOOD_COUNT: Limits = limits(0, 64);
 
-pub const HEAD_KIND: Limits = limits(0, 1);
+/// Request E2: "4 admits kind 2".
+pub const HEAD_KIND: Limits = limits(FLAT, SPHERICAL_CAP);
 pub const DH: Limits = limits(50_000, 500_000);
 pub const L1: Limits = limits(100_000, 3_000_000);
 pub const CIRCUMFERENCE: Limits = limits(150_000, 1_600_000);
 pub const L2: Limits = limits(0, 20_000);
-pub const L3_KIND_0: Limits = limits(0, 0);
-pub const L3_KIND_1: Limits = limits(1, 260_000);
+pub const L3_FLAT: Limits = limits(0, 0);
+/// Of a half-ellipsoid; request E2: "L3 limits as kind 1".
+pub const L3_CURVED: Limits = limits(1, 260_000);
 pub const STEP: Limits = limits(100, 10_000);
 
 pub const COURSE_LENGTH: Limits = limits(1, 3_000_000);
@@ -55,9 +61,9 @@ pub const DIAMETER_FROM_DH: i64 = 10_000;
 
 /// The limits of L3, which depend on the head kind.
 pub fn l3_limits(kind: u32) -> Limits {
-    if kind == 0 {
-        L3_KIND_0
+    if kind == FLAT {
+        L3_FLAT
     } else {
-        L3_KIND_1
+        L3_CURVED
     }
 }

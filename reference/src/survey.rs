@@ -71,7 +71,7 @@ pub fn parse_numbers(file: &[u8]) -> Result<Survey, Refusal> {
     // Refusals 2 and 3.
     let sections = sections::find(file)?;
 
-    // Refusal 4: "head kind not 0 or 1".
+    // Refusal 4: "head kind not 0 or 1", nor the 2 of request E2.
     if !limits::HEAD_KIND.allow(unsigned_at(file, 0)) {
         return Err(refuse(4));
     }

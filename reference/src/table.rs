@@ -1,4 +1,4 @@
-//! Making a table from a survey. Refusals 8 to 10, after 1 to 7.
+//! Making a table from a survey. Refusals 8 to 10, after 1 to 7 and 14.
 
 use crate::deadwood::all_shares;
 use crate::dimensions::dimensions;
@@ -31,7 +31,7 @@ pub struct Answer {
 /// `table_len` cells.
 pub fn make_table(survey: &[u8], table_len: usize) -> Result<Table, Refusal> {
     let survey = parse(survey)?; // refusals 1 to 6
-    let dimensions = dimensions(&survey)?; // refusal 7
+    let dimensions = dimensions(&survey)?; // refusals 7 and 14
 
     // Refusal 8: "lent table shorter than the row count".
     if table_len < row_count(survey.dh, survey.step) {

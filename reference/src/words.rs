@@ -4,7 +4,7 @@
 //! in mm or litres. Records are counted from 1, rows from 0.
 
 use crate::bytes::{signed_at, unsigned_at};
-use crate::dimensions::{accepted_diameter, d1, d2};
+use crate::dimensions::{accepted_diameter, d1, d2, longest_cap};
 use crate::limits::{self, Limits};
 use crate::refusal::Refusal;
 use crate::rows::row_heights;
@@ -25,12 +25,13 @@ pub fn of_survey(file: &[u8], refusal: Refusal) -> Option<String> {
         2 => bad_count(file),
         3 => bad_section(file),
         4 => Some(format!(
-            "head kind {}: must be 0 (flat) or 1 (half-ellipsoid)",
+            "head kind {}: must be 0 (flat), 1 (half-ellipsoid) or 2 (spherical cap)",
             unsigned_at(file, 0)
         )),
         5 => bad_number(file, place),
         6 => bad_lengths(file),
         7 => bad_diameter(file),
+        14 => long_cap(file),
         9 => falling_row(file, place),
         _ => None,
     }
@@ -183,6 +184,17 @@ fn bad_diameter(file: &[u8]) -> Option<String> {
         "{} and at most {} from DH {dh}",
         outside(name, &length(diameter), limits::DIAMETER),
         limits::DIAMETER_FROM_DH
+    ))
+}
+
+/// Refusal 14.
+fn long_cap(file: &[u8]) -> Option<String> {
+    let survey = parse(file).ok()?;
+    let d2 = accepted_diameter(d2(&survey), survey.dh)?;
+    Some(format!(
+        "head length L3 {}: must be at most {} for spherical caps, half the head diameter D2 {d2}",
+        length(survey.l3),
+        longest_cap(d2)
     ))
 }
 

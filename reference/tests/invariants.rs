@@ -5,7 +5,7 @@ use reference::dimensions::dimensions;
 use reference::generate::{case, sound_case};
 use reference::gross::Tank;
 use reference::heights::{corrected, DipHeight, ShellHeight};
-use reference::numbers::{nearest, root_down, root_up};
+use reference::numbers::{nearest, root_down, root_of_fraction_down, root_of_fraction_up, root_up};
 use reference::random::Random;
 use reference::rows::{row_count, row_heights, MOST_ROWS};
 use reference::survey::parse;
@@ -17,7 +17,7 @@ const UNTOUCHED: u32 = 0xdead_beef;
 
 #[test]
 fn answers_and_lent_memory() {
-    let mut seen = [0; 14];
+    let mut seen = [0; 15];
     let mut falls = [0; 3]; // at row 1, inside, at the last row
     for number in 0..4_000 {
         let case = case(2, number);
@@ -62,7 +62,7 @@ fn answers_and_lent_memory() {
         }
     }
     // The generator reaches every refusal but 10, which no survey reaches.
-    for number in 0..=9 {
+    for number in (0..=9).chain([14]) {
         assert!(seen[number] > 50, "{seen:?}");
     }
     assert_eq!(seen[10], 0);
@@ -182,6 +182,10 @@ fn roots_and_rounding() {
         let up = root_up(square);
         assert!(up * up >= square && (up == 0 || (up - 1) * (up - 1) < square));
         let bottom = u128::from(random.between(1, 1_000));
+        let down = root_of_fraction_down(square, bottom);
+        assert!(bottom * down * down <= square && square < bottom * (down + 1) * (down + 1));
+        let up = root_of_fraction_up(square, bottom);
+        assert!(bottom * up * up >= square && (up == 0 || bottom * (up - 1) * (up - 1) < square));
         let whole = nearest(square, bottom);
         // whole - 1/2 <= square/bottom < whole + 1/2
         assert!(2 * square + bottom >= 2 * whole * bottom);

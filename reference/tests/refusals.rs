@@ -120,14 +120,16 @@ fn three_deadwood_section() {
 
 #[test]
 fn four_head_kind() {
-    for kind in [2, 256, u32::MAX] {
+    for kind in [3, 4, 256, 258, 0x0200_0000, u32::MAX] {
         assert_eq!(refused(&paper_survey_but(0, kind)), (4, 0));
     }
-    // Kind 1 needs an L3 of at least 1.
-    assert_eq!(refused(&paper_survey_but(0, 1)), (5, 24));
-    let mut file = paper_survey_but(0, 1);
-    put(&mut file, 24, 1);
-    assert_eq!(refused(&file), (0, 0));
+    // Kinds 1 and 2 need an L3 of at least 1.
+    for kind in [1, 2] {
+        let mut file = paper_survey_but(0, kind);
+        assert_eq!(refused(&file), (5, 24));
+        put(&mut file, 24, 1);
+        assert_eq!(refused(&file), (0, 0));
+    }
 }
 
 /// Byte offset, smallest and largest of each number but L3, in the header and
@@ -158,15 +160,17 @@ fn five_at_every_limit() {
     for l3 in [1, u32::MAX] {
         assert_eq!(refused(&paper_survey_but(24, l3)), (5, 24));
     }
-    let mut kind_1 = paper_survey_but(0, 1);
-    for (l3, wanted) in [
-        (0, (5, 24)),
-        (1, (0, 0)),
-        (260_000, (0, 0)),
-        (260_001, (5, 24)),
-    ] {
-        put(&mut kind_1, 24, l3);
-        assert_eq!(refused(&kind_1), wanted);
+    // Spherical caps of 260,000 are inside these limits, but too long for D2.
+    for (kind, longest) in [(1, (0, 0)), (2, (14, 0))] {
+        for (l3, wanted) in [
+            (0, (5, 24)),
+            (1, (0, 0)),
+            (260_000, longest),
+            (260_001, (5, 24)),
+            (u32::MAX, (5, 24)),
+        ] {
+            assert_eq!(refused(&paper_survey_headed(kind, l3)), wanted);
+        }
     }
 }
 
@@ -294,6 +298,34 @@ fn seven_diameters() {
     );
 }
 
+/// Caps of D2 50,000, then of D2 50,001, for which 113·(160,221 + 160,227)/710
+/// is 51,000.88, nearest 51,001.
+#[test]
+fn fourteen_long_caps() {
+    for right in [160_221, 160_227] {
+        for (l3, wanted) in [
+            (24_999, (0, 0)),
+            (25_000, (0, 0)),
+            (25_001, (14, 0)),
+            (25_002, (14, 0)),
+            (260_000, (14, 0)),
+        ] {
+            let mut caps = paper_survey_headed(2, l3);
+            put(&mut caps, 16, right);
+            assert_eq!(refused(&caps), wanted, "{right} {l3}");
+            // Half-ellipsoids may be as long.
+            put(&mut caps, 0, 1);
+            assert_eq!(refused(&caps), (0, 0), "{right} {l3}");
+        }
+    }
+    // Right after 7 and before 8.
+    let mut caps = paper_survey_headed(2, 25_001);
+    assert_eq!(outcome(&caps, 0), (14, 0));
+    put(&mut caps, 4, 60_001);
+    assert_eq!(outcome(&caps, 0), (7, 0));
+    assert_eq!(outcome(&paper_survey_headed(2, 25_000), 0), (8, 0));
+}
+
 #[test]
 fn eight_table_length() {
     for (length, number) in [(0, 8), (5, 8), (6, 0), (7, 0), (100_000, 0)] {
@@ -347,7 +379,8 @@ fn tested_in_this_order() {
     file.resize(70_000, 0);
     put(&mut file, 32, 0);
     put(&mut file, 36, 0);
-    put(&mut file, 0, 2);
+    put(&mut file, 0, 3);
+    put(&mut file, 24, 25_001);
     put(&mut file, 28, 1);
     put(&mut file, 56, 99_899);
     put(&mut file, 60, 5_000);
@@ -359,13 +392,16 @@ fn tested_in_this_order() {
     assert_eq!(outcome(&file, lent), (3, 0));
     put(&mut file, 36, 48);
     assert_eq!(outcome(&file, lent), (4, 0));
-    put(&mut file, 0, 0);
+    put(&mut file, 0, 2);
     assert_eq!(outcome(&file, lent), (5, 28));
     put(&mut file, 28, 10_000);
     assert_eq!(outcome(&file, lent), (6, 0));
     put(&mut file, 56, 100_000);
     assert_eq!(outcome(&file, lent), (7, 0));
     put(&mut file, 60, 500);
+    assert_eq!(outcome(&file, lent), (14, 0));
+    // Caps of 0.01 mm hold less than half a v and leave the rows as they are.
+    put(&mut file, 24, 1);
     assert_eq!(outcome(&file, lent), (8, 0));
     assert_eq!(outcome(&file, 6), (9, 1));
     put(&mut file, 72, 2_796);

@@ -1,18 +1,20 @@
 //! The mission's third condition, run on small surveys with random counts.
 
+mod common;
+
+use common::{counts_of, tank_of, BOTH_SLABS};
 use reference::big::Big;
 use reference::dimensions::{dimensions, Dimensions};
 use reference::generate::sound_case;
 use reference::gross::Tank;
 use reference::heights::DipHeight;
+use reference::limits::SPHERICAL_CAP;
 use reference::make_table;
 use reference::random::Random;
 use reference::rows::row_heights;
-use reference::slabs::{condition_holds, tolerance, Counts, Slabs};
-use reference::survey::{parse, sum_of_lengths, Course, Survey};
+use reference::slabs::{condition_holds, tolerance, total, Counts, Slabs};
+use reference::survey::{parse, sum_of_lengths};
 use reference::volumes::CUBIC_U_IN_V;
-
-const BOTH: [Slabs; 2] = [Slabs::Fitting, Slabs::Covering];
 
 /// Counts from 1 to some hundreds, often very small.
 fn counts(random: &mut Random) -> Counts {
@@ -26,6 +28,7 @@ fn counts(random: &mut Random) -> Counts {
         shell: one(random),
         flanges: one(random),
         heads: one(random),
+        cap_lengths: one(random),
     }
 }
 
@@ -34,6 +37,7 @@ fn condition_three_on_generated_surveys() {
     let mut random = Random::new(3);
     let mut surveys = 0;
     let mut missing_l1 = 0;
+    let mut caps = 0;
     let mut number = 0;
     while surveys < 400 {
         let case = sound_case(3, number);
@@ -47,41 +51,22 @@ fn condition_three_on_generated_surveys() {
         }
         surveys += 1;
         missing_l1 += u32::from(sum_of_lengths(&survey.courses) != survey.l1);
+        caps += u32::from(survey.kind == SPHERICAL_CAP);
         let dimensions = dimensions(&survey).unwrap();
         let tank = Tank::new(&survey, dimensions);
         for height in row_heights(survey.dh, survey.step) {
             let gross = tank.gross(height);
             let counts = counts(&mut random);
-            for slabs in BOTH {
+            for slabs in BOTH_SLABS {
                 assert!(
-                    condition_holds(&survey, dimensions, height, gross, slabs, counts),
+                    condition_holds(&tank, height, gross, slabs, counts),
                     "survey {number}, {height:?}, {slabs:?}, {counts:?}"
                 );
             }
         }
     }
     assert!(missing_l1 > 100, "{missing_l1}");
-}
-
-/// A tank of these sizes; its diameters are given beside it.
-fn tank_of(kind: u32, dh: u32, l1: u32, l2: u32, l3: u32) -> Survey {
-    Survey {
-        kind,
-        dh,
-        l1,
-        left: 150_000,
-        right: 150_000,
-        l2,
-        l3,
-        step: 10_000,
-        courses: vec![Course {
-            first: 150_000,
-            second: 150_000,
-            length: l1,
-            thickness: 100,
-        }],
-        deadwood: Vec::new(),
-    }
+    assert!(caps > 100, "{caps}");
 }
 
 /// The largest tank the limits allow, the smallest, and between.
@@ -111,15 +96,8 @@ fn condition_three_at_the_extremes() {
             let height = DipHeight(height);
             let gross = tank.gross(height);
             for n in [1, 2, 3, 10_000] {
-                let counts = Counts {
-                    shell: n,
-                    flanges: n,
-                    heads: n,
-                };
-                for slabs in BOTH {
-                    assert!(condition_holds(
-                        &survey, dimensions, height, gross, slabs, counts
-                    ));
+                for slabs in BOTH_SLABS {
+                    assert!(condition_holds(&tank, height, gross, slabs, counts_of(n)));
                 }
             }
         }
@@ -136,16 +114,10 @@ fn a_wrong_gross_row_fails() {
         d2: 51_000,
     };
     let tank = Tank::new(&survey, dimensions);
-    let counts = Counts {
-        shell: 20_000,
-        flanges: 20_000,
-        heads: 20_000,
-    };
-    let room = (tolerance(&survey, dimensions) / CUBIC_U_IN_V) as u64 + 10;
     for height in row_heights(survey.dh, survey.step) {
+        let room = (tolerance(&tank, height) / CUBIC_U_IN_V) as u64 + 10;
         let gross = tank.gross(height);
-        let holds =
-            |gross, slabs| condition_holds(&survey, dimensions, height, gross, slabs, counts);
+        let holds = |gross, slabs| condition_holds(&tank, height, gross, slabs, counts_of(20_000));
         assert!(holds(gross, Slabs::Fitting) && holds(gross, Slabs::Covering));
         assert!(!holds(gross + room, Slabs::Covering));
         if gross > room {
@@ -163,15 +135,11 @@ fn one_slab_by_hand() {
         d1: 50_000,
         d2: 50_000,
     };
-    let one = Counts {
-        shell: 1,
-        flanges: 1,
-        heads: 1,
-    };
+    let tank = Tank::new(&survey, dimensions);
     let height = DipHeight(25_000);
-    let fitting = reference::slabs::total(&survey, dimensions, height, Slabs::Fitting, one);
+    let fitting = total(&tank, height, Slabs::Fitting, counts_of(1));
     assert_eq!(fitting.top, Big::new(0));
-    let covering = reference::slabs::total(&survey, dimensions, height, Slabs::Covering, one);
+    let covering = total(&tank, height, Slabs::Covering, counts_of(1));
     let by_hand = covering
         .bottom
         .times(&Big::product(&[50_000, 100_000, 25_000]));
@@ -189,22 +157,17 @@ fn slabs_and_film_go_by_l1() {
             d1: 50_000,
             d2: 50_000,
         };
-        let one = Counts {
-            shell: 1,
-            flanges: 1,
-            heads: 1,
-        };
-        // 3·50,000·100,000 cubic u and 3 v.
-        assert_eq!(tolerance(&survey, dimensions), 45_000_000_000);
+        let tank = Tank::new(&survey, dimensions);
         let height = DipHeight(25_000);
-        let covering = reference::slabs::total(&survey, dimensions, height, Slabs::Covering, one);
+        // 3·50,000·100,000 cubic u and 3 v.
+        assert_eq!(tolerance(&tank, height), 45_000_000_000);
+        let covering = total(&tank, height, Slabs::Covering, counts_of(1));
         let by_hand = Big::product(&[50_000, 100_000, 25_000]);
         assert_eq!(covering.top, covering.bottom.times(&by_hand));
         // The covering slab is 12,500 v and the tolerance 4.5 v: the largest
         // gross row is 12,504. With the course's length instead of L1 the slab
         // would be 12,487.5 or 12,512.5 v.
-        let holds =
-            |gross| condition_holds(&survey, dimensions, height, gross, Slabs::Covering, one);
+        let holds = |gross| condition_holds(&tank, height, gross, Slabs::Covering, counts_of(1));
         assert!(holds(12_504));
         assert!(!holds(12_505));
     }
@@ -252,15 +215,9 @@ fn the_readings_of_the_slabs() {
             0 => tank_of(0, d, length, 0, 0),
             _ => tank_of(1, d, 0, 0, length),
         };
-        let dimensions = Dimensions { d1: d, d2: d };
-        let counts = Counts {
-            shell: n,
-            flanges: n,
-            heads: n,
-        };
+        let tank = Tank::new(&survey, Dimensions { d1: d, d2: d });
         for (slabs, over) in [(Slabs::Fitting, fitting), (Slabs::Covering, covering)] {
-            let total =
-                reference::slabs::total(&survey, dimensions, DipHeight(height), slabs, counts);
+            let total = total(&tank, DipHeight(height), slabs, counts_of(n));
             assert_eq!(
                 total.top.times(&Big::new(under)),
                 total.bottom.times(&Big::new(over)),
@@ -281,14 +238,13 @@ fn the_edges_of_a_small_tank() {
     let counts = Counts {
         shell: 3,
         flanges: 2,
-        heads: 1,
+        ..counts_of(1)
     };
-    assert_eq!(tolerance(&survey, dimensions), 48_177_000_000);
-    let holds = |gross| {
-        BOTH.map(|slabs| {
-            condition_holds(&survey, dimensions, DipHeight(30_000), gross, slabs, counts)
-        })
-    };
+    let tank = Tank::new(&survey, dimensions);
+    let height = DipHeight(30_000);
+    assert_eq!(tolerance(&tank, height), 48_177_000_000);
+    let holds =
+        |gross| BOTH_SLABS.map(|slabs| condition_holds(&tank, height, gross, slabs, counts));
     assert_eq!(holds(10_199), [false, true]);
     assert_eq!(holds(10_200), [true, true]);
     assert_eq!(holds(20_397), [true, true]);

@@ -119,7 +119,10 @@ fn sections() {
 
 #[test]
 fn head_kinds() {
-    but(0, 2, "head kind 2: must be 0 (flat) or 1 (half-ellipsoid)");
+    for kind in [3, 258, u32::MAX] {
+        let must = "must be 0 (flat), 1 (half-ellipsoid) or 2 (spherical cap)";
+        but(0, kind, &format!("head kind {kind}: {must}"));
+    }
 }
 
 #[test]
@@ -154,11 +157,13 @@ fn header_numbers() {
         1,
         "head length L3 1 (0.01 mm): must be 0 to 0 for this kind of head",
     );
-    but(
-        0,
-        1,
-        "head length L3 0 (0.00 mm): must be 1 to 260000 for this kind of head",
-    );
+    for kind in [1, 2] {
+        but(
+            0,
+            kind,
+            "head length L3 0 (0.00 mm): must be 1 to 260000 for this kind of head",
+        );
+    }
     but(28, 99, "step 99 (0.99 mm): must be 100 to 10000");
     but(
         28,
@@ -251,6 +256,30 @@ fn diameters() {
     but(4, 60_001, "shell diameter D1 50000 (500.00 mm): must be 50000 to 500000 and at most 10000 from DH 60001");
     // A larger end alone.
     but(16, 230_000, "head diameter D2 61106 (611.06 mm): must be 50000 to 500000 and at most 10000 from DH 50000");
+}
+
+#[test]
+fn long_caps() {
+    assert_eq!(
+        sentence(&paper_survey_headed(2, 25_001)),
+        "head length L3 25001 (250.01 mm): must be at most 25000 for spherical caps, half the \
+         head diameter D2 50000"
+    );
+    // An odd D2: half of it is rounded down.
+    let mut odd = paper_survey_headed(2, 260_000);
+    put(&mut odd, 16, 160_227);
+    assert_eq!(
+        sentence(&odd),
+        "head length L3 260000 (2,600.00 mm): must be at most 25000 for spherical caps, half the \
+         head diameter D2 50001"
+    );
+    // A D2 that is refused itself is told alone.
+    put(&mut odd, 16, 230_000);
+    assert_eq!(
+        sentence(&odd),
+        "head diameter D2 61106 (611.06 mm): must be 50000 to 500000 and at most 10000 from DH \
+         50000"
+    );
 }
 
 #[test]

@@ -61,6 +61,14 @@ static void with_deadwood(uint8_t *survey, uint32_t low, uint32_t high, int32_t 
     put(survey, PAPER_BYTES + 8, (uint32_t)volume);
 }
 
+/* The paper's survey with spherical caps of a length, in place of flat heads. */
+static void with_caps(uint8_t *survey, uint32_t length)
+{
+    paper_survey(survey);
+    put(survey, 0, 2);
+    put(survey, 24, length);
+}
+
 /* The paper's survey with a course that misses L1 by no more than it may: D1 goes by the course's length, the rows by L1. */
 static void missing_course(uint32_t length, const char *what)
 {
@@ -92,6 +100,10 @@ static void accepted_surveys(void)
 
     missing_course(99900, "one course 100 shorter than the shell: the same D1, and the paper's rows");
     missing_course(100100, "one course 100 longer than the shell: the same D1, and the paper's rows");
+
+    with_caps(survey, 25000);
+    a = milechime_table(lent_bytes(survey, PAPER_BYTES), PAPER_BYTES, lent_cells(PAPER_ROWS), PAPER_ROWS);
+    check(answers(a, 0, 0, 50000, 50000, PAPER_ROWS), "caps half as long as D2 are accepted");
 
     with_deadwood(survey, 10000, 30000, 1000);
     cells = lent_cells(PAPER_ROWS);
@@ -129,13 +141,19 @@ static void refused_surveys(void)
     refused_with(40, 65, 2, 0, "65 deadwood items: refusal 2");
     refused_with(36, 47, 3, 0, "courses inside the header: refusal 3");
     refused_with(36, 0xFFFFFFF0u, 3, 0, "courses far outside the file: refusal 3");
-    refused_with(0, 2, 4, 0, "head kind 2: refusal 4");
+    refused_with(0, 3, 4, 0, "head kind 3: refusal 4");
     refused_with(4, 49999, 5, 4, "DH 49,999: refusal 5 at byte 4");
     refused_with(24, 1, 5, 24, "a flat head with a length: refusal 5 at byte 24");
+    refused_with(0, 2, 5, 24, "a spherical cap without a length: refusal 5 at byte 24");
     refused_with(60, 5001, 5, 60, "a wall too thick: refusal 5 at byte 60");
     refused_with(56, 99899, 6, 0, "one course 101 shorter than the shell: refusal 6");
     refused_with(56, 100101, 6, 0, "one course 101 longer than the shell: refusal 6");
     refused_with(4, 60001, 7, 0, "D1 more than 10,000 below DH: refusal 7");
+
+    with_caps(survey, 25001);
+    refused(survey, PAPER_BYTES, 14, 0, "caps longer than half of D2: refusal 14");
+    put(survey, 4, 60001);
+    refused(survey, PAPER_BYTES, 7, 0, "and D1 more than 10,000 below DH: refusal 7 comes first");
 }
 
 static void short_tables(void)
@@ -149,6 +167,9 @@ static void short_tables(void)
     check(answers(a, 8, 0, 0, 0, 0) && untouched_from(cells, 0, PAPER_ROWS - 1), "five cells for six rows: refusal 8");
     check(answers(milechime_table(survey, PAPER_BYTES, NULL, 0), 8, 0, 0, 0, 0), "no table: refusal 8");
     check(answers(milechime_table(NULL, 0, NULL, 0), 1, 0, 0, 0, 0), "no survey and no table: refusal 1");
+    with_caps(bytes, 25001);
+    check(answers(milechime_table(lent_bytes(bytes, PAPER_BYTES), PAPER_BYTES, NULL, 0), 14, 0, 0, 0, 0),
+          "caps too long and no table: refusal 14 comes first");
     cells = lent_cells(PAPER_ROWS);
     check(answers(milechime_table(NULL, 0, cells, PAPER_ROWS), 1, 0, 0, 0, 0) && untouched_from(cells, 0, PAPER_ROWS),
           "no survey: refusal 1");

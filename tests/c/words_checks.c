@@ -44,11 +44,19 @@ void words_checks(void)
     paper_survey(survey);
     told(survey, 47, "file of 47 bytes: must have 48 to 65536");
     told_with(32, 41, "course count 41: must be 1 to 40");
-    told_with(0, 2, "head kind 2: must be 0 (flat) or 1 (half-ellipsoid)");
+    told_with(0, 3, "head kind 3: must be 0 (flat), 1 (half-ellipsoid) or 2 (spherical cap)");
     told_with(4, 49999, "dip diameter DH 49999 (499.99 mm): must be 50000 to 500000");
     told_with(56, 99899, "sum of the course lengths 99899 (998.99 mm): must be 99900 to 100100, "
                          "the shell length L1 give or take 100 for each course");
     told_with(60, 5001, "course 1, thickness 5001 (50.01 mm): must be 100 to 5000");
+    uint8_t caps[PAPER_BYTES];
+    paper_survey(caps);
+    put(caps, 0, 2);
+    put(caps, 24, 25001);
+    told(caps, PAPER_BYTES, "head length L3 25001 (250.01 mm): must be at most 25000 for spherical caps, half the head diameter D2 50000");
+    put(caps, 4, 49999);
+    check(says(milechime_words(caps, PAPER_BYTES, 14, 0), "refusal 14 at place 0: not one of this survey's"),
+          "refusal 14 of a survey that gets an earlier one");
     check(says(milechime_words(NULL, 0, 1, 0), "file of 0 bytes: must have 48 to 65536"), "no survey at all");
     check(says(milechime_words(survey, PAPER_BYTES, 8, 0), "lent table: must have a cell for each row"), "a lent table that is too short");
     check(says(milechime_words(survey, PAPER_BYTES, 5, 6), "refusal 5 at place 6: not one of this survey's"), "a place that no number has");

@@ -12,7 +12,7 @@ pub struct Quotient {
 }
 
 // The same number with `more` added to its rest, which may carry one divisor over to the quotient.
-fn carried(q: Quotient, more: u64, divisor: u64) -> Quotient
+pub fn carried(q: Quotient, more: u64, divisor: u64) -> Quotient
     requires { ⌜ (q .rest < divisor) × (more ≤ divisor) × (divisor ≤ 2 ^ 63) × (q .quotient + 1 < 2 ^ 64) ⌝ }
     ensures { λ r. ⌜ Divided (q .quotient * divisor + q .rest + more) divisor (r .quotient) (r .rest) ⌝ }
 {

@@ -3,4 +3,5 @@ pub mod Reading
 pub mod HoldLaws
 pub mod ReadingLaws
 pub mod SlabReadingLaws
+pub mod DomeReadingLaws
 pub mod ExampleLaws

@@ -13,16 +13,20 @@ use Rattle.measure.specs.Quantity.{diameter}
 use Rattle.circle.specs.Correction.{correctedHeight}
 use Rattle.circle.specs.Circle.{chord, chordSquare, chordUp}
 use Rattle.slabs.specs.Fraction.{whole, _⊕_, _⊑_}
-use Rattle.slabs.specs.Slab.{containsMiddle, smallerFace, largerFace}
+use Rattle.slabs.specs.Slab.{Cut, containsMiddle, smallerFace, largerFace}
 use Rattle.heads.specs.declared.kind.HeadKind.the-variants.{Flat, HalfEllipsoid}
-use Rattle.heads.specs.Slabs.{piUnit, piFitting, piCovering, slabsOf, headsFitting, headsCovering}
+use Rattle.heads.specs.Slabs.{piUnit, piFitting, piCovering, slabsOf, headsFitting, headsCovering, headsTolerance}
 use Rattle.tank.specs.declared.tank.Tank.{Tank}
 use Rattle.tank.specs.Part.{Filled}
 use Rattle.tank.specs.Tank.{partsOf, filledAt}
-use Rattle.tank.specs.Slabs.{cylinderFitting, cylinderCovering, fittingOf, coveringOf, fittingTotal, coveringTotal, filmOf, film, tolerance}
+use Rattle.tank.specs.Slabs.{cylinderFitting, cylinderCovering, fittingOf, coveringOf, fittingTotal, coveringTotal, filmOf, film, toleranceOf, added, tolerance}
 use Rattle.tank.specs.Condition3.{Condition3}
 use Rattle.cases.specs.Reading.{Reading, _reads_, _per_, _comesTo_, Holds}
 use Rattle.cases.specs.HoldLaws.{all-hold}
+
+-- cut into so many levels, as a half-ellipsoid is
+abbrev pub levels : ℕ → Cut
+levels n = record { levels = n; lengths = 1 }
 
 -- diameter, length, height and count of slabs: even and odd diameters, no height, all of it, and less; with H = D two slabs touch the
 -- middle and the second of three contains it
@@ -53,24 +57,24 @@ slabReadings =
     ∷ (cylinderCovering 10 3 0 3 comesTo 0 per 9)
     ∷ (piFitting * 10000000 reads 31415926 * piUnit)
     ∷ (piCovering * 10000000 reads 31415927 * piUnit)
-    ∷ (headsFitting HalfEllipsoid 10 4 10 1 comesTo 0 per 1)
-    ∷ (headsCovering HalfEllipsoid 10 4 10 1 comesTo 31415927 per 50000)
-    ∷ (headsFitting HalfEllipsoid 10 4 10 2 comesTo 0 per 1)
-    ∷ (headsCovering HalfEllipsoid 10 4 10 2 comesTo 31415927 per 50000)
-    ∷ (headsFitting HalfEllipsoid 10 4 10 3 comesTo 15707963 per 84375)
-    ∷ (headsCovering HalfEllipsoid 10 4 10 3 comesTo 31415927 per 54000)
-    ∷ (headsFitting HalfEllipsoid 11 4 11 1 comesTo 0 per 1)
-    ∷ (headsCovering HalfEllipsoid 11 4 11 1 comesTo 3801327167 per 5000000)
-    ∷ (headsFitting HalfEllipsoid 11 4 11 2 comesTo 0 per 1)
-    ∷ (headsCovering HalfEllipsoid 11 4 11 2 comesTo 3801327167 per 5000000)
-    ∷ (headsFitting HalfEllipsoid 11 4 11 3 comesTo 1900663523 per 8437500)
-    ∷ (headsCovering HalfEllipsoid 11 4 11 3 comesTo 3801327167 per 5400000)
-    ∷ (headsFitting HalfEllipsoid 11 4 6 2 comesTo 141371667 per 859375)
-    ∷ (headsCovering HalfEllipsoid 11 4 6 2 comesTo 20451768477 per 55000000)
-    ∷ (headsFitting HalfEllipsoid 10 4 0 3 comesTo 0 per 1)
-    ∷ (headsCovering HalfEllipsoid 10 4 0 3 comesTo 0 per 1)
-    ∷ (headsFitting Flat 10 0 10 3 comesTo 0 per 1)
-    ∷ (headsCovering Flat 10 0 10 3 comesTo 0 per 1)
+    ∷ (headsFitting HalfEllipsoid 10 4 10 (levels 1) comesTo 0 per 1)
+    ∷ (headsCovering HalfEllipsoid 10 4 10 (levels 1) comesTo 31415927 per 50000)
+    ∷ (headsFitting HalfEllipsoid 10 4 10 (levels 2) comesTo 0 per 1)
+    ∷ (headsCovering HalfEllipsoid 10 4 10 (levels 2) comesTo 31415927 per 50000)
+    ∷ (headsFitting HalfEllipsoid 10 4 10 (levels 3) comesTo 15707963 per 84375)
+    ∷ (headsCovering HalfEllipsoid 10 4 10 (levels 3) comesTo 31415927 per 54000)
+    ∷ (headsFitting HalfEllipsoid 11 4 11 (levels 1) comesTo 0 per 1)
+    ∷ (headsCovering HalfEllipsoid 11 4 11 (levels 1) comesTo 3801327167 per 5000000)
+    ∷ (headsFitting HalfEllipsoid 11 4 11 (levels 2) comesTo 0 per 1)
+    ∷ (headsCovering HalfEllipsoid 11 4 11 (levels 2) comesTo 3801327167 per 5000000)
+    ∷ (headsFitting HalfEllipsoid 11 4 11 (levels 3) comesTo 1900663523 per 8437500)
+    ∷ (headsCovering HalfEllipsoid 11 4 11 (levels 3) comesTo 3801327167 per 5400000)
+    ∷ (headsFitting HalfEllipsoid 11 4 6 (levels 2) comesTo 141371667 per 859375)
+    ∷ (headsCovering HalfEllipsoid 11 4 6 (levels 2) comesTo 20451768477 per 55000000)
+    ∷ (headsFitting HalfEllipsoid 10 4 0 (levels 3) comesTo 0 per 1)
+    ∷ (headsCovering HalfEllipsoid 10 4 0 (levels 3) comesTo 0 per 1)
+    ∷ (headsFitting Flat 10 0 10 (levels 3) comesTo 0 per 1)
+    ∷ (headsCovering Flat 10 0 10 (levels 3) comesTo 0 per 1)
     ∷ []
 
 pub slab-readings-hold : Holds slabReadings
@@ -88,25 +92,25 @@ abbrev parts : List Filled
 parts = filledAt smallTank 30000
 
 -- three slabs of the shell, two of the flanges, one of the heads
-abbrev counts : ℕ → ℕ
-counts zero = 3
-counts (suc zero) = 2
-counts (suc (suc k)) = 1
+abbrev cuts : ℕ → Cut
+cuts zero = levels 3
+cuts (suc zero) = levels 2
+cuts (suc (suc k)) = levels 1
 
 abbrev pub tankReadings : List Reading
 tankReadings =
-    (fittingTotal parts counts comesTo 306129953750000 per 3)
-    ∷ (coveringTotal parts counts comesTo 611771422997875 per 3)
+    (fittingTotal parts cuts comesTo 306129953750000 per 3)
+    ∷ (coveringTotal parts cuts comesTo 611771422997875 per 3)
     ∷ (tolerance parts reads 48177000000)
     ∷ []
 
 pub tank-readings-hold : Holds tankReadings
-unfolding root rootUp sum chord chordSquare chordUp containsMiddle smallerFace largerFace cylinderFitting cylinderCovering slabsOf headsFitting headsCovering fittingOf coveringOf fittingTotal coveringTotal filmOf film tolerance partsOf filledAt correctedHeight
+unfolding root rootUp sum chord chordSquare chordUp containsMiddle smallerFace largerFace cylinderFitting cylinderCovering slabsOf headsFitting headsCovering fittingOf coveringOf fittingTotal coveringTotal filmOf film headsTolerance toleranceOf added tolerance partsOf filledAt correctedHeight
 tank-readings-hold = all-hold tankReadings refl
 
 -- with these slabs condition 3 is true of a gross row of 10,200 to 20,397 v, and of no other
-pub edges : (Condition3 parts 10200 counts × Condition3 parts 20397 counts) × ((Condition3 parts 10199 counts → ⊥) × (Condition3 parts 20398 counts → ⊥))
-unfolding root rootUp sum chord chordSquare chordUp containsMiddle smallerFace largerFace cylinderFitting cylinderCovering slabsOf headsFitting headsCovering fittingOf coveringOf fittingTotal coveringTotal filmOf film tolerance partsOf filledAt correctedHeight
+pub edges : (Condition3 parts 10200 cuts × Condition3 parts 20397 cuts) × ((Condition3 parts 10199 cuts → ⊥) × (Condition3 parts 20398 cuts → ⊥))
+unfolding root rootUp sum chord chordSquare chordUp containsMiddle smallerFace largerFace cylinderFitting cylinderCovering slabsOf headsFitting headsCovering fittingOf coveringOf fittingTotal coveringTotal filmOf film headsTolerance toleranceOf added tolerance partsOf filledAt correctedHeight
 edges = (
   (record { fits = leb-true _ _ refl; covers = leb-true _ _ refl }, record { fits = leb-true _ _ refl; covers = leb-true _ _ refl }),
   (λ c. not-le-of-lt (leb-false _ _ refl) (c .fits), λ c. not-le-of-lt (leb-false _ _ refl) (c .covers)),

@@ -4,6 +4,8 @@ pub mod Kind
 pub mod Length
 pub mod LengthLaws
 pub mod Volume
+pub mod Walk
+pub mod WalkLaws
 pub mod CapLaws
 pub mod VolumeLaws
 pub mod Slabs

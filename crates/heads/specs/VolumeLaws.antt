@@ -1,17 +1,21 @@
 -- The volume of heads by its polynomial: it never falls as the height grows, that of full heads is document 000's formula 30, and what
 -- no heads within the limits exceed. Assumes nothing.
-use Prim.Native.Nat.{ℕ, _*_, _-_, _≤_, _<_}
+use Prim.Native.Nat.{ℕ, _+_, _*_, _-_, _≤_, _<_}
 use mathlib.Core.Path.{_≡_, ap}
-use native.Mathlib.Nat.{le-refl, le-trans, mul-le-mul, mul-le-mul-left, mul-assoc}
+use native.Mathlib.Nat.{le-refl, le-trans, add-le-add, mul-le-mul, mul-le-mul-left, mul-assoc}
 use native.Mathlib.Omega.{arith}
 use Rattle.laws.specs.Nearest.{nearest}
 use Rattle.laws.specs.NearestLaws.{nearest-mono, nearest-at-most, nearest-cancel}
 use Rattle.measure.specs.Diameter.{largest}
 use Rattle.measure.specs.Quantity.{cubicPerV}
 use Rattle.measure.specs.Pi.{piOver, piUnder}
+use Rattle.domes.specs.Dome.{domeFitting, domeCovering}
+use Rattle.domes.specs.TotalLaws.{fitting-mono, covering-mono}
+use Rattle.domes.specs.BegunLaws.{dome-at-most}
 use Rattle.heads.specs.declared.kind.HeadKind.{HeadKind}
-use Rattle.heads.specs.declared.kind.HeadKind.the-variants.{Flat, HalfEllipsoid}
+use Rattle.heads.specs.declared.kind.HeadKind.the-variants.{Flat, HalfEllipsoid, SphericalCap}
 use Rattle.heads.specs.Length.{longest}
+use Rattle.heads.specs.LengthLaws.{HeadLimits, cap-limits}
 use Rattle.heads.specs.Volume.{headsVolume}
 use Rattle.heads.specs.CapLaws.{cap, cap-at-most, cap-mono}
 
@@ -27,6 +31,9 @@ heads-mono Flat d l h h′ d-low up h-high = le-refl 0
 heads-mono HalfEllipsoid d l h h′ d-low up h-high =
     rw (volume-by-cap d l h, volume-by-cap d l h′)
     (nearest-mono _ _ (piUnder * (3 * d) * cubicPerV) (omega arith) (mul-le-mul-left (piOver * l) (cap-mono d h h′ up h-high)))
+heads-mono SphericalCap d l h h′ d-low up h-high =
+    nearest-mono _ _ (2 * cubicPerV) (omega arith)
+    (add-le-add (mul-le-mul-left 2 (fitting-mono d l h h′ up)) (mul-le-mul-left 2 (covering-mono d l h h′ up)))
 
 -- full heads, document 000's formula 30 for both: pi/3 · D² · L
 pub full-heads : (d l : ℕ) → 0 < d → headsVolume HalfEllipsoid d l d ≡ nearest (piOver * l * (d * d)) (piUnder * 3 * cubicPerV)
@@ -44,13 +51,27 @@ cap-limit d l h h-high d-high l-high =
 
 -- in v; the largest heads hold less
 abbrev pub mostHeads : ℕ
-mostHeads = 10000000
+mostHeads = 13000000
 
-pub heads-at-most : (kind : HeadKind) (d l h : ℕ) → h ≤ d → 0 < d → d ≤ largest → l ≤ longest
-    → headsVolume kind d l h ≤ mostHeads
-unfolding headsVolume
-heads-at-most Flat d l h h-high d-low d-high l-high = omega arith
-heads-at-most HalfEllipsoid d l h h-high d-low d-high l-high =
+pub half-ellipsoids-at-most : (d l h : ℕ) → h ≤ d → 0 < d → d ≤ largest → l ≤ longest → headsVolume HalfEllipsoid d l h ≤ mostHeads
+half-ellipsoids-at-most d l h h-high d-low d-high l-high =
     rw (volume-by-cap d l h)
     (nearest-at-most _ mostHeads (piUnder * (3 * d) * cubicPerV) (omega arith)
     (omega (arith, cap-limit d l h h-high d-high l-high)))
+
+-- of one dome
+pub dome-small : (d l h : ℕ) → h ≤ d → d ≤ largest → HeadLimits SphericalCap d l → domeFitting d l h + domeCovering d l h ≤ mostHeads * cubicPerV
+dome-small d l h h-high d-high limits =
+    omega (
+      arith,
+      dome-at-most d l (cap-limits d l limits) (limits .low) h,
+      mul-le-mul (le-trans h-high d-high) (mul-le-mul (limits .high) d-high),
+    )
+
+pub heads-at-most : (kind : HeadKind) (d l h : ℕ) → h ≤ d → 0 < d → d ≤ largest → HeadLimits kind d l
+    → headsVolume kind d l h ≤ mostHeads
+unfolding headsVolume
+heads-at-most Flat d l h h-high d-low d-high limits = omega arith
+heads-at-most HalfEllipsoid d l h h-high d-low d-high limits = half-ellipsoids-at-most d l h h-high d-low d-high (limits .high)
+heads-at-most SphericalCap d l h h-high d-low d-high limits =
+    nearest-at-most _ mostHeads (2 * cubicPerV) (omega arith) (omega (arith, dome-small d l h h-high d-high limits))

@@ -5,6 +5,7 @@ ghost use Rattle.heads.specs.Kind.{kindKnown, kindOf};
 pub enum HeadKind {
     Flat,
     HalfEllipsoid,
+    SphericalCap,
 }
 
 impl HeadKind {
@@ -12,7 +13,7 @@ impl HeadKind {
     pub fn is_known(number: u32) -> bool
         ensures { λ r. ⌜ r ≡ kindKnown number ⌝ }
     {
-        number <= 1
+        number <= 2
     }
 
     // The kind of a number that is known.
@@ -20,9 +21,11 @@ impl HeadKind {
         ensures { λ r. ⌜ r ≡ kindOf number ⌝ }
     {
         if number == 0 {
-            HeadKind::Flat
-        } else {
-            HeadKind::HalfEllipsoid
+            return HeadKind::Flat;
         }
+        if number == 1 {
+            return HeadKind::HalfEllipsoid;
+        }
+        HeadKind::SphericalCap
     }
 }

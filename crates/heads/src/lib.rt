@@ -2,3 +2,4 @@
 pub mod kind;
 pub mod length;
 pub mod volume;
+pub mod walk;

@@ -5,10 +5,14 @@ ghost use Rattle.measure.specs.Diameter.{largest};
 ghost use Rattle.measure.specs.Quantity.{diameterUnits, volume};
 ghost use Rattle.circle.specs.ShellHeight.{shellUnits};
 ghost use Rattle.heads.specs.Length.{longest};
+ghost use Rattle.heads.specs.LengthLaws.{HeadLimits};
 ghost use Rattle.heads.specs.Volume.{headsVolume};
+ghost use Rattle.heads.specs.Walk.{headsWalkAt};
 use crate::kind::HeadKind;
+use arith::nearest::nearest_quotient;
 use arith::product::nearest_of_product;
 use circle::shell_height::ShellHeight;
+use domes::walk::DomeWalk;
 use measure::diameter::Diameter;
 use measure::pi::PI_OVER;
 use measure::pi::PI_UNDER;
@@ -29,13 +33,25 @@ fn half_ellipsoids(d: u64, l: u64, h: u64) -> Volume
     Volume::of(both as u32)
 }
 
-// Both heads, filled to h.
-pub fn heads_volume(kind: HeadKind, d: Diameter, l: u32, h: ShellHeight) -> Volume
-    requires { ⌜ (shellUnits h ≤ diameterUnits d) × (0 < diameterUnits d) × (diameterUnits d ≤ largest) × (l ≤ longest) ⌝ }
+// Spherical caps of diameter d and inner length l, whose dome is walked up to h: halfway between the two totals of both domes is as much as the
+// two totals of one dome together.
+fn spherical_caps(dome: DomeWalk, d: u64, l: u64, h: u64) -> Volume
+    requires { ⌜ (h ≤ d) × (d ≤ largest) × HeadLimits HeadKind.SphericalCap d l × (dome ≡ headsWalkAt HeadKind.SphericalCap d l h) ⌝ }
+    ensures { λ r. ⌜ r ≡ volume (headsVolume HeadKind.SphericalCap d l h) ⌝ }
+{
+    let totals = dome.filled(d, l, h);
+    Volume::of(nearest_quotient(totals.fitting + totals.covering, CUBIC_PER_V) as u32)
+}
+
+// Both heads, filled to h, where the walk has come to.
+pub fn heads_volume(at: DomeWalk, kind: HeadKind, d: Diameter, l: u32, h: ShellHeight) -> Volume
+    requires { ⌜ (shellUnits h ≤ diameterUnits d) × (0 < diameterUnits d) × (diameterUnits d ≤ largest) × HeadLimits kind (diameterUnits d) l ⌝ }
+    requires { ⌜ at ≡ headsWalkAt kind (diameterUnits d) l (shellUnits h) ⌝ }
     ensures { λ r. ⌜ r ≡ volume (headsVolume kind (diameterUnits d) l (shellUnits h)) ⌝ }
 {
     match kind {
         HeadKind::Flat => Volume::of(0),
         HeadKind::HalfEllipsoid => half_ellipsoids(d.units() as u64, l as u64, h.shell_units()),
+        HeadKind::SphericalCap => spherical_caps(at, d.units() as u64, l as u64, h.shell_units()),
     }
 }

@@ -12,6 +12,7 @@ pub mod Sum
 pub mod SumLaws
 pub mod Root
 pub mod RootLaws
+pub mod FractionRootLaws
 pub mod Nearest
 pub mod NearestLaws
 pub mod Half

@@ -1,8 +1,9 @@
 -- Splitting on an order of two numbers, and what is picked by one: the one place where a law goes by cases. Assumes nothing.
-use Prim.Native.Nat.{ℕ, _*_, _≤_, _<_}
+use Prim.Native.Nat.{ℕ, zero, suc, _*_, _≤_, _<_}
 use mathlib.Core.Path.{_≡_}
 use native.Mathlib.Decide.{decLe}
 use native.Mathlib.Nat.{lt-of-not-le, not-le-of-lt, mul-le-mul}
+use native.Mathlib.Omega.{arith}
 use lib.Dec.{leb}
 use borrow.Author.Tests.{le-leb, lt-leb}
 use Rattle.laws.specs.Order.{pick}
@@ -31,3 +32,8 @@ same-order a b c d there back =
 -- squares are ordered as their sides
 pub lt-of-square : (a b : ℕ) → a * a < b * b → a < b
 lt-of-square a b h = by-order b a (λ l. absurd (not-le-of-lt h (mul-le-mul l l))) (λ l. l)
+
+-- a square above something is no square of 0
+pub some-side : {n : ℕ} (r : ℕ) → n < r * r → 0 < r
+some-side zero h = absurd (omega arith)
+some-side (suc r) h = omega arith

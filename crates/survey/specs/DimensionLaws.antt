@@ -1,6 +1,6 @@
--- What a file that refusals 6 and 7 can be given to promises, and that its D1 and D2 fit 64 bits with a sign. Assumes nothing.
+-- What a file that refusals 6, 7 and 14 can be given to promises, and that its D1 fits 64 bits with a sign and its D2 32 bits. Assumes nothing.
 use Prim.Native.Nat.{ℕ, _+_, _*_, _^_, _≤_, _<_}
-use mathlib.Core.Path.{_≡_, refl, sym}
+use mathlib.Core.Path.{_≡_, refl, sym, _∙_}
 use mathlib.Core.Bool.{true, _&&_}
 use mathlib.Core.List.{List, _++_}
 use native.Mathlib.Nat.{mul-le-mul-left}
@@ -12,16 +12,19 @@ use Rattle.measure.specs.Pi.{piOver, piUnder}
 use Rattle.refusal.specs.declared.Verdict.{Verdict}
 use Rattle.refusal.specs.declared.Verdict.the-variants.{Passed, Refused}
 use Rattle.refusal.specs.Test.{verdict, within}
-use Rattle.refusal.specs.TestLaws.{verdict-append}
+use Rattle.refusal.specs.TestLaws.{verdict-append, passed-all}
+use Rattle.heads.specs.Kind.{kindKnown}
 use Rattle.survey.specs.declared.format.Format.{Format}
 use Rattle.survey.specs.Word.{word}
-use Rattle.survey.specs.Layout.{leftAt, rightAt}
+use Rattle.survey.specs.Layout.{today, kindAt, leftAt, rightAt}
 use Rattle.survey.specs.Limits.{largestFile}
 use Rattle.survey.specs.Dimensions.{sumsOf, outerDiameter, shellDiameter, headDiameter, d1, d2}
 use Rattle.survey.specs.Tests.{layoutTests, numberTests, dimensionTests, fileTests}
+use Rattle.survey.specs.Survey.{decoded}
 use Rattle.survey.specs.Fault.{passed, numbersPass}
 use Rattle.survey.specs.SectionLaws.{Readable, placed-file}
 use Rattle.survey.specs.SurveyLaws.{NumbersFit, file-sums-fit, ends-fit}
+use Rattle.survey.specs.NumberedLaws.{decoded-verdict}
 
 pub passed-verdict : (v : Verdict) → passed v ≡ true → v ≡ Passed
 passed-verdict Passed e = refl
@@ -40,7 +43,11 @@ module _ (f : Format) (s : List ℕ) (e : numbersPass f s ≡ true) where
   pub numbers-pass : Readable f → NumbersFit f s
   numbers-pass readable = record { placed = placed-file f s readable (each-passes .0) (each-passes .1); numbers = each-passes .2 }
 
-  -- .. and 6 and 7 are the verdict
+  pub kind-known : kindKnown (word s kindAt) ≡ true
+  unfolding layoutTests
+  kind-known = passed-all (layoutTests f s) (each-passes .1) .1 .1 .1 .1 .1 .0
+
+  -- .. and 6, 7 and 14 are the verdict
   pub dimensions-decide : verdict (fileTests f s) ≡ verdict (dimensionTests f s)
   unfolding fileTests
   dimensions-decide =
@@ -52,6 +59,10 @@ module _ (f : Format) (s : List ℕ) (e : numbersPass f s ≡ true) where
         each-passes .2,
       )
 
+-- .. on a file in today's format
+pub decoded-by-dimensions : (s : List ℕ) → numbersPass today s ≡ true → decoded s .verdict ≡ verdict (dimensionTests today s)
+decoded-by-dimensions s e = decoded-verdict s ∙ dimensions-decide today s e
+
 -- D1 and D2 are no more than what they are made of
 
 outer-at-most : (readings lengths : ℕ) → 1 ≤ lengths → outerDiameter readings lengths ≤ piUnder * readings
@@ -61,7 +72,7 @@ outer-at-most readings lengths some =
     let divisor : 1 ≤ 2 * piOver * lengths = omega arith in
     nearest-at-most dividend dividend (2 * piOver * lengths) divisor (omega (arith, mul-le-mul-left dividend divisor))
 
-pub diameters-small : (f : Format) (s : List ℕ) → NumbersFit f s → (d1 f s < 2 ^ 63) × (d2 f s < 2 ^ 63)
+pub diameters-small : (f : Format) (s : List ℕ) → NumbersFit f s → (d1 f s < 2 ^ 63) × (d2 f s < 2 ^ 32)
 unfolding shellDiameter headDiameter
 diameters-small f s fit =
     let sums = file-sums-fit f s fit in

@@ -8,8 +8,10 @@ use Rattle.laws.specs.Nearest.{nearest}
 use Rattle.laws.specs.Order.{pick}
 use Rattle.measure.specs.Diameter.{smallest, largest}
 use Rattle.measure.specs.Pi.{piOver, piUnder}
-use Rattle.measure.specs.Quantity.{diameter}
+use Rattle.measure.specs.Quantity.{diameter, diameterUnits}
 use Rattle.refusal.specs.Test.{refusal, within, near}
+use Rattle.heads.specs.declared.kind.HeadKind.{HeadKind}
+use Rattle.heads.specs.Length.{fitsDiameter}
 use Rattle.survey.specs.declared.dimensions.Sums.{Sums}
 use Rattle.survey.specs.declared.dimensions.Dimensions.{Dimensions}
 use Rattle.survey.specs.declared.dimensions.Dimensions.the-variants.{Found, Refused}
@@ -93,3 +95,8 @@ diametersFit dh d1 d2 = diameterFits d1 dh && diameterFits d2 dh
 -- DH, D1 and D2 where both fit, else refusal 7
 abbrev pub dimensions : (dh d1 d2 : ℕ) → Dimensions
 dimensions dh d1 d2 = pick (diametersFit dh d1 d2) (Found (diameter dh) (diameter d1) (diameter d2)) (Refused (refusal 7 0))
+
+-- what was found, and then refusal 14, where D2 does not allow the length of one head
+abbrev pub headsTested : HeadKind → ℕ → Dimensions → Dimensions
+headsTested kind l3 (Found dh d1 d2) = pick (fitsDiameter kind (diameterUnits d2) l3) (Found dh d1 d2) (Refused (refusal 14 0))
+headsTested kind l3 (Refused r) = Refused r

@@ -9,7 +9,8 @@ use Rattle.laws.specs.Nearest.{nearest}
 use Rattle.measure.specs.Quantity.{diameter}
 use Rattle.refusal.specs.declared.Verdict.the-variants.{Passed}
 use Rattle.refusal.specs.Test.{items}
-use Rattle.heads.specs.declared.kind.HeadKind.the-variants.{Flat}
+use Rattle.heads.specs.declared.kind.HeadKind.{HeadKind}
+use Rattle.heads.specs.declared.kind.HeadKind.the-variants.{Flat, SphericalCap}
 use Rattle.heads.specs.Kind.{kindKnown, kindOf}
 use Rattle.heads.specs.Length.{lengthFits}
 use Rattle.survey.specs.declared.decode.Survey.{Survey}
@@ -27,27 +28,33 @@ abbrev pub concat : List ℕ → List ℕ
 concat [] = []
 concat (n ∷ ns) = bytes n ++ concat ns
 
--- with courses of these lengths in place of its one, each as round and as thick
-abbrev pub sixRowsOf : List ℕ → List ℕ
-sixRowsOf lengths =
-    concat (0 ∷ 50000 ∷ 100000 ∷ 160221 ∷ 160221 ∷ 0 ∷ 0 ∷ 10000 ∷ length lengths ∷ 48 ∷ 0 ∷ 0 ∷ courses lengths)
+-- with heads of this kind and length, and courses of these lengths in place of its one, each as round and as thick
+abbrev sixRowsWith : (kind l3 : ℕ) → List ℕ → List ℕ
+sixRowsWith kind l3 lengths =
+    concat (kind ∷ 50000 ∷ 100000 ∷ 160221 ∷ 160221 ∷ 0 ∷ l3 ∷ 10000 ∷ length lengths ∷ 48 ∷ 0 ∷ 0 ∷ courses lengths)
   where
     courses : List ℕ → List ℕ
     courses [] = []
     courses (n ∷ ns) = 160221 ∷ 160221 ∷ n ∷ 500 ∷ courses ns
 
+abbrev pub sixRowsOf : List ℕ → List ℕ
+sixRowsOf lengths = sixRowsWith 0 0 lengths
+
 abbrev pub sixRows : List ℕ
 sixRows = sixRowsOf (100000 ∷ [])
 
 -- a tank of 500.00 mm all over
-abbrev pub sixRowsSurvey : Survey
-sixRowsSurvey =
+abbrev sixRowsSurveyWith : HeadKind → ℕ → Survey
+sixRowsSurveyWith kind l3 =
     record {
-      tank = record { kind = Flat; dh = diameter 50000; d1 = diameter 50000; d2 = diameter 50000; l1 = 100000; l2 = 0; l3 = 0 };
+      tank = record { kind = kind; dh = diameter 50000; d1 = diameter 50000; d2 = diameter 50000; l1 = 100000; l2 = 0; l3 = l3 };
       step = 10000;
       deadwood = noItems;
       count = 0;
     }
+
+abbrev pub sixRowsSurvey : Survey
+sixRowsSurvey = sixRowsSurveyWith Flat 0
 
 -- it is the survey of a file
 abbrev pub SixRows : List ℕ → Type 0
@@ -61,9 +68,16 @@ MissingCourses =
     × SixRows (sixRowsOf (50000 ∷ 49800 ∷ []))
     × SixRows (sixRowsOf (60000 ∷ 30000 ∷ 10300 ∷ []))
 
-all-decoded : SixRows sixRows × MissingCourses
+-- spherical caps (document 02, E2), half as long as D2
+abbrev pub longestCaps : List ℕ
+longestCaps = sixRowsWith 2 25000 (100000 ∷ [])
+
+abbrev pub LongestCaps : Type 0
+LongestCaps = decoded longestCaps ≡ decodedBy Passed (sixRowsSurveyWith SphericalCap 25000)
+
+all-decoded : SixRows sixRows × MissingCourses × LongestCaps
 unfolding rowsOf nearest items kindKnown kindOf lengthFits word signedWord countFits placed apart sumOf sumsOver lengthsFit outerDiameter wall shellDiameter headDiameter diameterFits layoutTests headerTests courseTests itemTests dimensionTests fileTests decoded
-all-decoded = (refl, (refl, refl, refl, refl))
+all-decoded = (refl, (refl, refl, refl, refl), refl)
 
 pub six-rows-decoded : SixRows sixRows
 six-rows-decoded = all-decoded .0
@@ -71,3 +85,6 @@ six-rows-decoded = all-decoded .0
 -- D1 goes by the sum of the lengths, and the shell is L1 long all the same
 pub missing-courses-decoded : MissingCourses
 missing-courses-decoded = all-decoded .1
+
+pub longest-caps-decoded : LongestCaps
+longest-caps-decoded = all-decoded .2

@@ -13,6 +13,7 @@ use Rattle.refusal.specs.declared.Verdict.{Verdict}
 use Rattle.refusal.specs.declared.Verdict.the-variants.{Passed, Refused}
 use Rattle.refusal.specs.Test.{verdict, within}
 use Rattle.heads.specs.declared.kind.HeadKind.{HeadKind}
+use Rattle.heads.specs.declared.kind.HeadKind.the-variants.{SphericalCap}
 use Rattle.heads.specs.Kind.{kindOf}
 use Rattle.heads.specs.Length.{shortestOf, longestOf}
 use Rattle.tank.specs.Limits.{longestShell, longestFlange}
@@ -24,12 +25,12 @@ use Rattle.survey.specs.declared.section.Section.{Section}
 use Rattle.survey.specs.declared.section.Records.{Records}
 use Rattle.survey.specs.declared.section.Records.the-variants.{Courses, Deadwood}
 use Rattle.survey.specs.Word.{word, signedWord}
-use Rattle.survey.specs.Layout.{today, headerEnd, kindAt, dhAt, l1At, stepAt, coursesAt, deadwoodAt, highIn, volumeIn}
+use Rattle.survey.specs.Layout.{today, headerEnd, kindAt, dhAt, l1At, l3At, stepAt, coursesAt, deadwoodAt, highIn, volumeIn}
 use Rattle.survey.specs.Limits.{largestFile, mostCourses, shortestCircumference, longestCircumference, shortestShell, shortestCourse, thinnest, thickest}
 use Rattle.survey.specs.Section.{courses, deadwood, sections, endOf, countFits, placed, apart, recordLong}
 use Rattle.survey.specs.Dimensions.{sumsOf, allowance, d1, d2, diameterFits}
 use Rattle.survey.specs.Sentence.{ofCourses, ofDeadwood, ofSize, ofLargeFile, ofOverlap, ofLengths, ofShellDiameter, ofHeadDiameter}
-use Rattle.survey.specs.Sentence.{ofLentTable, ofFallingRow, ofRowBelowZero, ofUnknown}
+use Rattle.survey.specs.Sentence.{ofHeadLength, ofLentTable, ofFallingRow, ofRowBelowZero, ofUnknown}
 use Rattle.survey.specs.Tests.{layoutTests, numberTests}
 
 abbrev pub faultWith : (sentence item value low high : ℕ) → Fault
@@ -65,7 +66,7 @@ offsetLimits f s = limits (f .header) (min (length s) largestFile)
 -- of the header's words, in their order
 unfoldable pub headerLimits : Format → List ℕ → List Limits
 headerLimits f s =
-    limits 0 1
+    limits 0 2
     ∷ limits smallest largest
     ∷ limits shortestShell longestShell
     ∷ circumference
@@ -166,7 +167,7 @@ numberFault f s place =
     (sectionsFault (sections f s) s place))
     (unknown 5 place)
 
--- refusals 6 and 7, which are given to no file but one that passes the five before
+-- refusals 6, 7 and 14, which are given to no file but one that passes the first five
 
 abbrev pub passed : Verdict → Bool
 passed Passed = true
@@ -187,9 +188,17 @@ diameterFault f s =
     (faultWith ofHeadDiameter (word s dhAt) (d2 f s) smallest largest)
     (faultWith ofShellDiameter (word s dhAt) (d1 f s) smallest largest)
 
+-- the length of one cap, and D2, whose half is its limit
+unfoldable pub headLengthFault : Format → List ℕ → Fault
+headLengthFault f s = faultWith ofHeadLength (d2 f s) (word s l3At) (shortestOf SphericalCap) (d2 f s / 2)
+
 unfoldable pub dimensionFault : Format → List ℕ → (number place : ℕ) → Fault
 dimensionFault f s number place =
-    pick (numbersPass f s) (pick (eqb number 6) (lengthsFault f s) (diameterFault f s)) (unknown number place)
+    pick (numbersPass f s)
+    (pick (eqb number 6) (lengthsFault f s)
+    (pick (eqb number 7) (diameterFault f s)
+    (headLengthFault f s)))
+    (unknown number place)
 
 -- refusals 9 and 10: a row, and its height
 unfoldable pub rowFault : List ℕ → (sentence row : ℕ) → Fault
@@ -210,6 +219,7 @@ headedFault f s number place =
     ∷ (5, numberFault f s place)
     ∷ (6, dimensionFault f s 6 place)
     ∷ (7, dimensionFault f s 7 place)
+    ∷ (14, dimensionFault f s 14 place)
     ∷ (8, faultWith ofLentTable 0 0 0 0)
     ∷ (9, rowFault s ofFallingRow place)
     ∷ (10, rowFault s ofRowBelowZero place)

@@ -17,18 +17,26 @@ use Rattle.survey.specs.Dimensions.{sumOf, sumsOver, lengthsFit, outerDi
 use Rattle.survey.specs.Tests.{layoutTests, headerTests, courseTests, itemTests, dimensionTests, fileTests}
 use Rattle.survey.specs.Survey.{decoded}
 use Rattle.survey.specs.Fault.{faultWith, unknown, sizeFault, headerLimits, headerFault, countFault, placeFault, courseFault, volumeFault, itemFault}
-use Rattle.survey.specs.Fault.{fieldFault, numberFault, numbersPass, lengthsFault, diameterFault, dimensionFault, headedFault, faultAs, faultOf}
+use Rattle.survey.specs.Fault.{fieldFault, numberFault, numbersPass, lengthsFault, diameterFault, headLengthFault, dimensionFault, headedFault, faultAs, faultOf}
 use Rattle.survey.specs.ExampleLaws.{concat}
 
--- DH, the count of the courses, the byte offset of the deadwood, the course's first circumference and its length, and item 2's high height
--- and volume
-abbrev file : (dh count offset circumference length high volume : ℕ) → List ℕ
-file dh count offset circumference length high volume =
+-- kind and length of the heads, DH, the count of the courses, the byte offset of the deadwood, the course's first circumference and its
+-- length, and item 2's high height and volume
+abbrev fileWith : (kind l3 dh count offset circumference length high volume : ℕ) → List ℕ
+fileWith kind l3 dh count offset circumference length high volume =
     concat
-    (0 ∷ dh ∷ 100000 ∷ 160221 ∷ 160221 ∷ 0 ∷ 0 ∷ 10000 ∷ count ∷ 48 ∷ 2 ∷ offset
+    (kind ∷ dh ∷ 100000 ∷ 160221 ∷ 160221 ∷ 0 ∷ l3 ∷ 10000 ∷ count ∷ 48 ∷ 2 ∷ offset
     ∷ circumference ∷ 160221 ∷ length ∷ 500
     ∷ 100 ∷ 200 ∷ 5
     ∷ 300 ∷ high ∷ volume ∷ [])
+
+-- with flat heads
+abbrev file : (dh count offset circumference length high volume : ℕ) → List ℕ
+file dh count offset circumference length high volume = fileWith 0 0 dh count offset circumference length high volume
+
+-- with spherical caps
+abbrev caps : (l3 circumference length : ℕ) → List ℕ
+caps l3 circumference length = fileWith 2 l3 50000 1 64 circumference length 400 5
 
 -- a file gets a refusal, and that is about this
 abbrev About : List ℕ → (number place : ℕ) → Fault → Type 0
@@ -39,7 +47,7 @@ abbrev volumeTooLow : Fault
 volumeTooLow = record { sentence = 18; item = 2; value = negℤ (pos 10000001); low = negℤ (pos 10000000); high = pos 10000000 }
 
 -- DH, a count, the deadwood from the courses' last byte on, the sum of the lengths one too short and one too long, D1, item 2's high height
--- above DH and its volume
+-- above DH and its volume; a kind of head that is none, caps one longer than half of D2, and that 6 and 7 come before that
 pub changed-words : About (file 49999 1 64 160221 100000 400 5) 5 4 (faultWith 1 0 49999 50000 500000)
     × About (file 50000 41 64 160221 100000 400 5) 2 0 (faultWith 8 0 41 1 40)
     × About (file 50000 1 63 160221 100000 400 5) 3 0 (faultWith 21 2 63 0 0)
@@ -48,8 +56,12 @@ pub changed-words : About (file 49999 1 64 160221 100000 400 5) 5 4 (faultWith 1
     × About (file 50000 1 64 300000 100000 400 5) 7 0 (faultWith 23 50000 72246 50000 500000)
     × About (file 50000 1 64 160221 100000 50001 5) 5 80 (faultWith 17 2 50001 0 50000)
     × About (file 50000 1 64 160221 100000 400 4284967295) 5 84 volumeTooLow
-unfolding rowsOf nearest items kindKnown kindOf lengthFits word signedWord countFits placed apart sumOf sumsOver lengthsFit outerDiameter wall shellDiameter headDiameter diameterFits layoutTests headerTests courseTests itemTests dimensionTests fileTests decoded headerLimits headerFault countFault placeFault courseFault volumeFault itemFault fieldFault numberFault numbersPass lengthsFault diameterFault dimensionFault headedFault faultAs faultOf
-changed-words = ((refl, refl), (refl, refl), (refl, refl), (refl, refl), (refl, refl), (refl, refl), (refl, refl), (refl, refl))
+    × About (fileWith 3 1 50000 1 64 160221 100000 400 5) 4 0 (faultWith 0 0 3 0 2)
+    × About (caps 25001 160221 100000) 14 0 (faultWith 25 50000 25001 1 25000)
+    × About (caps 25001 160221 99899) 6 0 (faultWith 22 0 99899 99900 100100)
+    × About (caps 25001 300000 100000) 7 0 (faultWith 23 50000 72246 50000 500000)
+unfolding rowsOf nearest items kindKnown kindOf lengthFits word signedWord countFits placed apart sumOf sumsOver lengthsFit outerDiameter wall shellDiameter headDiameter diameterFits layoutTests headerTests courseTests itemTests dimensionTests fileTests decoded headerLimits headerFault countFault placeFault courseFault volumeFault itemFault fieldFault numberFault numbersPass lengthsFault diameterFault headLengthFault dimensionFault headedFault faultAs faultOf
+changed-words = ((refl, refl), (refl, refl), (refl, refl), (refl, refl), (refl, refl), (refl, refl), (refl, refl), (refl, refl), (refl, refl), (refl, refl), (refl, refl), (refl, refl))
 
 -- a file without bytes; and a refusal of no survey, whatever the file
 pub no-bytes : About [] 1 0 (faultWith 19 0 0 48 65536)

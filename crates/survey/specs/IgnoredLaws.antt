@@ -169,7 +169,10 @@ module _ (f : Format) (s s′ : List ℕ) (readable : Readable f) (same : SameSe
 
   same-dimensions : dimensionTests f s ≡ dimensionTests f s′
   unfolding dimensionTests
-  same-dimensions = cc (same-sums, same-d1, same-d2, header-word l1At (omega arith), header-word dhAt (omega arith))
+  same-dimensions =
+      let kind = header-word kindAt (omega arith) in
+      let l3 = header-word l3At (omega arith) in
+      cc (same-sums, same-d1, same-d2, header-word l1At (omega arith), header-word dhAt (omega arith))
 
   -- the same tests ..
   pub same-tests : fileTests f s ≡ fileTests f s′

@@ -12,20 +12,21 @@ use Rattle.laws.specs.Exactly.{Exactly}
 use Rattle.laws.specs.Order.{pick}
 use Rattle.refusal.specs.declared.Verdict.{Verdict}
 use Rattle.refusal.specs.declared.Verdict.the-variants.{Passed, Refused}
-use Rattle.refusal.specs.Test.{refusal, verdict, within}
+use Rattle.refusal.specs.Test.{refusal, within}
 use Rattle.refusal.specs.TestLaws.{near-difference, near-within}
+use Rattle.heads.specs.Kind.{kindOf}
+use Rattle.heads.specs.Length.{fitsDiameter}
 use Rattle.survey.specs.declared.dimensions.Sums.{Sums}
 use Rattle.survey.specs.declared.format.Format.{Format}
 use Rattle.survey.specs.Word.{word}
-use Rattle.survey.specs.Layout.{today, dhAt, l1At}
+use Rattle.survey.specs.Layout.{today, kindAt, dhAt, l1At, l3At}
 use Rattle.survey.specs.Section.{courses}
 use Rattle.survey.specs.Dimensions.{sumsOf, allowance, lengthsFit, d1, d2, diametersFit}
 use Rattle.survey.specs.Tests.{dimensionTests}
 use Rattle.survey.specs.Survey.{decoded}
 use Rattle.survey.specs.Fault.{numbersPass, lengthsFault}
 use Rattle.survey.specs.SurveyLaws.{file-sums, today-readable}
-use Rattle.survey.specs.NumberedLaws.{decoded-verdict}
-use Rattle.survey.specs.DimensionLaws.{numbers-pass, dimensions-decide}
+use Rattle.survey.specs.DimensionLaws.{numbers-pass, decoded-by-dimensions}
 
 -- by how much the sum of the course lengths misses L1, whichever is the larger
 abbrev pub missed : Format → List ℕ → ℕ
@@ -40,15 +41,15 @@ abbrev numberOf : Verdict → ℕ
 numberOf Passed = 0
 numberOf (Refused r) = r .number
 
-sixth-first : (a b : Bool) → pick a (pick b Passed (Refused (refusal 7 0))) (Refused (refusal 6 0)) ≡ Refused (refusal 6 0) → a ≡ false
-sixth-first true true e = absurd (let number : 0 ≡ 6 = ap numberOf e in omega arith)
-sixth-first true false e = absurd (let number : 7 ≡ 6 = ap numberOf e in omega arith)
-sixth-first false b e = refl
+sixth-first : (a b c : Bool)
+    → pick a (pick b (pick c Passed (Refused (refusal 14 0))) (Refused (refusal 7 0))) (Refused (refusal 6 0)) ≡ Refused (refusal 6 0)
+    → a ≡ false
+sixth-first true true true e = absurd (let number : 0 ≡ 6 = ap numberOf e in omega arith)
+sixth-first true true false e = absurd (let number : 14 ≡ 6 = ap numberOf e in omega arith)
+sixth-first true false c e = absurd (let number : 7 ≡ 6 = ap numberOf e in omega arith)
+sixth-first false b c e = refl
 
 module _ (s : List ℕ) (e : numbersPass today s ≡ true) where
-  decides : decoded s .verdict ≡ verdict (dimensionTests today s)
-  decides = decoded-verdict s ∙ dimensions-decide today s e
-
   tested : lengthsFit (sumsOf today s) (word s l1At) ≡ leb (missed today s) (allowance (sumsOf today s))
   unfolding lengthsFit
   tested = let t = sumsOf today s in near-difference (t .lengths) (word s l1At) (allowance t) (missed today s) refl
@@ -61,7 +62,9 @@ module _ (s : List ℕ) (e : numbersPass today s ≡ true) where
   unfolding dimensionTests
   sixth-exactly =
       let most = allowance (sumsOf today s) in
-      let first = sixth-first (lengthsFit (sumsOf today s) (word s l1At)) (diametersFit (word s dhAt) (d1 today s) (d2 today s)) in
+      let decides = decoded-by-dimensions s e in
+      let fits = fitsDiameter (kindOf (word s kindAt)) (d2 today s) (word s l3At) in
+      let first = sixth-first (lengthsFit (sumsOf today s) (word s l1At)) (diametersFit (word s dhAt) (d1 today s) (d2 today s)) fits in
       record {
         only-when = λ h. omega (arith, count, leb-false (missed today s) most (sym tested ∙ first (sym decides ∙ h)));
         whenever = λ h. decides ∙ rw (tested ∙ lt-leb (missed today s) most (omega (arith, count, h)));

@@ -1,6 +1,6 @@
 -- The survey file as document 01 gives it: words, layout, sections, limits, dimensions, the ordered tests, the survey that a file holds
 -- and what a refusal is about; then what the tests promise, that no wall is thicker than its tube, when the course lengths miss L1 by too
--- much, that bytes in no section are ignored, and that every number and every refusal has its sentence.
+-- much and caps are too long for D2, that bytes in no section are ignored, and that every number and every refusal has its sentence.
 pub mod Word
 pub mod Layout
 pub mod Limits
@@ -22,6 +22,7 @@ pub mod NumberedLaws
 pub mod IgnoredLaws
 pub mod DimensionLaws
 pub mod LengthsLaws
+pub mod HeadLengthLaws
 pub mod FaultLaws
 pub mod NamedLaws
 pub mod ExampleLaws

@@ -1,8 +1,11 @@
 -- What a survey that is not refused promises, in the numbers of document 01. Assumes nothing.
-use Prim.Native.Nat.{ℕ, _≤_, _<_}
+use Prim.Native.Nat.{ℕ, _*_, _≤_, _<_}
+use mathlib.Core.Path.{_≡_}
 use lib.IntN.{natAbs}
 use lib.ListN.{length}
 use Rattle.measure.specs.Quantity.{diameterUnits, dipUnits}
+use Rattle.heads.specs.declared.kind.HeadKind.the-variants.{SphericalCap}
+use Rattle.heads.specs.LengthLaws.{cap-limits}
 use Rattle.deadwood.specs.Item.{itemAt}
 use Rattle.survey.specs.declared.decode.Survey.{Survey}
 use Rattle.survey.specs.Survey.{itemsIn}
@@ -19,7 +22,10 @@ module _ (v : Survey) (limits : SurveyLimits v) where
       ((t .dh-low, t .dh-high), ((t .d1-low, t .d1-high), (t .d2-low, t .d2-high)))
 
   pub lengths-in-numbers : (v .tank .l1 ≤ 3000000) × ((v .tank .l2 ≤ 20000) × (v .tank .l3 ≤ 260000))
-  lengths-in-numbers = (limits .tank .l1-high, (limits .tank .l2-high, limits .tank .l3-high))
+  lengths-in-numbers = (limits .tank .l1-high, (limits .tank .l2-high, limits .tank .heads .high))
+
+  pub caps-in-numbers : v .tank .kind ≡ SphericalCap → 2 * v .tank .l3 ≤ diameterUnits (v .tank .d2)
+  caps-in-numbers cap = cap-limits (diameterUnits (v .tank .d2)) (v .tank .l3) (rw cap at (limits .tank .heads))
 
   pub step-in-numbers : (100 ≤ v .step) × (v .step ≤ 10000)
   step-in-numbers = (limits .step-low, limits .step-high)

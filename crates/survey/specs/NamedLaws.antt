@@ -28,7 +28,7 @@ use Rattle.survey.specs.Sentence.{ofUnknown}
 use Rattle.survey.specs.Tests.{countTests, placeTests, layoutTests, headerTests, numberTests, dimensionTests, fileTests}
 use Rattle.survey.specs.Tests.{courseTests, itemTests, recordTests, sectionTests, sectionsTests}
 use Rattle.survey.specs.Fault.{sizeFault, headerFault, countFault, placeFault, headedFault, faultAs, faultOf}
-use Rattle.survey.specs.Fault.{numbersPass, lengthsFault, diameterFault, dimensionFault}
+use Rattle.survey.specs.Fault.{numbersPass, lengthsFault, diameterFault, headLengthFault, dimensionFault}
 use Rattle.survey.specs.Survey.{decoded}
 use Rattle.survey.specs.SectionLaws.{Readable}
 use Rattle.survey.specs.SurveyLaws.{today-readable}
@@ -143,10 +143,10 @@ module _ (f : Format) (s : List ℕ) (readable : Readable f) (header : f .header
         (each-append (Named f s) (sectionTests s (deadwood f s)) [] (section-named (deadwood f s) (List·Memᴰ·tail (List·Memᴰ·head refl))) tt))
 
   dimensions-named : numbersPass f s ≡ true → Each (Named f s) (dimensionTests f s)
-  unfolding lengthsFault diameterFault dimensionFault headedFault faultAs dimensionTests
+  unfolding lengthsFault diameterFault headLengthFault dimensionFault headedFault faultAs dimensionTests
   dimensions-named pass =
       let by-diameter = by-test (diameterFits (d1 f s) (word s dhAt)) in
-      (rw (has-header, pass) (omega arith), (rw (has-header, pass) (by-diameter (λ e. rw e (omega arith)) (λ e. rw e (omega arith))), tt))
+      (rw (has-header, pass) (omega arith), (rw (has-header, pass) (by-diameter (λ e. rw e (omega arith)) (λ e. rw e (omega arith))), (rw (has-header, pass) (omega arith), tt)))
 
 -- what the verdicts before say
 

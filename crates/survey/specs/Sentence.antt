@@ -32,24 +32,28 @@ ofShellDiameter = 23
 abbrev pub ofHeadDiameter : ℕ
 ofHeadDiameter = 24
 
+-- L3 of spherical caps
+abbrev pub ofHeadLength : ℕ
+ofHeadLength = 25
+
 -- the table that a caller lends
 abbrev pub ofLentTable : ℕ
-ofLentTable = 25
+ofLentTable = 26
 
 -- a row below the row before, and one below zero
 abbrev pub ofFallingRow : ℕ
-ofFallingRow = 26
+ofFallingRow = 27
 
 abbrev pub ofRowBelowZero : ℕ
-ofRowBelowZero = 27
+ofRowBelowZero = 28
 
 -- what a lookup is asked for: a dip height above the tank, a volume above the last row
 abbrev pub ofHeight : ℕ
-ofHeight = 28
+ofHeight = 29
 
 abbrev pub ofVolume : ℕ
-ofVolume = 29
+ofVolume = 30
 
 -- and last a refusal that is not a survey's
 abbrev pub ofUnknown : ℕ
-ofUnknown = 30
+ofUnknown = 31

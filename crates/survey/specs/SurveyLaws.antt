@@ -18,8 +18,8 @@ use Rattle.refusal.specs.declared.Verdict.the-variants.{Passed, Refused}
 use Rattle.refusal.specs.Test.{verdict, items, within, near}
 use Rattle.refusal.specs.TestLaws.{refused-not-passed, passed-pick, passed-all, passed-append, passed-items, within-pass}
 use Rattle.heads.specs.Kind.{kindOf}
-use Rattle.heads.specs.Length.{longest}
-use Rattle.heads.specs.LengthLaws.{length-at-most}
+use Rattle.heads.specs.Length.{lengthFits}
+use Rattle.heads.specs.LengthLaws.{within-limits}
 use Rattle.tank.specs.Limits.{longestShell, longestFlange}
 use Rattle.tank.specs.TankLaws.{TankLimits}
 use Rattle.deadwood.specs.declared.item.Deadwood.{Deadwood}
@@ -146,13 +146,16 @@ module _ (f : Format) (s : List ℕ) (fit : NumbersFit f s) where
   unfolding headerTests
   shell-fits = within-pass shortestShell (word s l1At) longestShell (passed-all (headerTests s) header-passed .1 .0)
 
-  lengths-fit : (word s l1At ≤ longestShell) × (word s l2At ≤ longestFlange) × (word s l3At ≤ longest)
+  pub head-length-fits : lengthFits (kindOf (word s kindAt)) (word s l3At) ≡ true
+  unfolding headerTests
+  head-length-fits = passed-all (headerTests s) header-passed .1 .1 .1 .1 .1 .0
+
+  lengths-fit : (word s l1At ≤ longestShell) × (word s l2At ≤ longestFlange)
   unfolding headerTests
   lengths-fit =
       let pass = passed-all (headerTests s) header-passed in (
         shell-fits .1,
         within-pass 0 (word s l2At) longestFlange (pass .1 .1 .1 .1 .0) .1,
-        length-at-most (kindOf (word s kindAt)) (word s l3At) (pass .1 .1 .1 .1 .1 .0),
       )
 
 fits-within : (d dh : ℕ) → diameterFits d dh ≡ true → (smallest ≤ d) × (d ≤ largest)
@@ -187,7 +190,7 @@ survey-fits f s readable e =
         d2-high = heads .1;
         l1-high = lengths-fit f s fit .0;
         l2-high = lengths-fit f s fit .1;
-        l3-high = lengths-fit f s fit .2;
+        heads = within-limits (kindOf (word s kindAt)) (d2 f s) (word s l3At) (head-length-fits f s fit) (pass .1 .1 .0);
       };
       step-low = step-fits f s fit .0;
       step-high = step-fits f s fit .1;

@@ -1,4 +1,4 @@
--- Refusals 1 to 7 as one ordered list of tests, each with its number and its place: a later request inserts a line.
+-- Refusals 1 to 7 and 14 as one ordered list of tests, each with its number and its place: a later request inserts a line.
 -- Assumes nothing.
 use Prim.Native.Nat.{ℕ, _+_}
 use mathlib.Core.List.{List, [], _∷_, _++_}
@@ -7,7 +7,7 @@ use Rattle.measure.specs.Diameter.{smallest, largest}
 use Rattle.schedule.specs.Rows.{smallestStep, largestStep}
 use Rattle.refusal.specs.Test.{Test, test, items, within}
 use Rattle.heads.specs.Kind.{kindKnown, kindOf}
-use Rattle.heads.specs.Length.{lengthFits}
+use Rattle.heads.specs.Length.{lengthFits, fitsDiameter}
 use Rattle.tank.specs.Limits.{longestShell, longestFlange}
 use Rattle.deadwood.specs.Item.{heightsFit, volumeFits}
 use Rattle.survey.specs.declared.format.Format.{Format}
@@ -90,11 +90,12 @@ sectionsTests s (x ∷ xs) = sectionTests s x ++ sectionsTests s xs
 abbrev pub numberTests : Format → List ℕ → List Test
 numberTests f s = headerTests s ++ sectionsTests s (sections f s)
 
--- refusals 6 and 7
+-- refusals 6, 7 and 14
 unfoldable pub dimensionTests : Format → List ℕ → List Test
 dimensionTests f s =
     test 6 0 (lengthsFit (sumsOf f s) (word s l1At))
     ∷ test 7 0 (diametersFit (word s dhAt) (d1 f s) (d2 f s))
+    ∷ test 14 0 (fitsDiameter (kindOf (word s kindAt)) (d2 f s) (word s l3At))
     ∷ []
 
 -- all of them

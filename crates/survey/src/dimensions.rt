@@ -8,7 +8,7 @@ ghost use Rattle.measure.specs.Pi.{piUnder};
 ghost use Rattle.measure.specs.Quantity.{diameter};
 ghost use Rattle.tank.specs.Limits.{longestShell};
 ghost use Rattle.survey.specs.Limits.{mostCourses};
-ghost use Rattle.survey.specs.Dimensions.{sumOf, added, sumsOver, allowance, lengthsFit, outerDiameter, wall, shellDiameter, headDiameter, diameterFits, dimensions};
+ghost use Rattle.survey.specs.Dimensions.{sumOf, added, sumsOver, allowance, lengthsFit, outerDiameter, wall, shellDiameter, headDiameter, diameterFits, dimensions, headsTested};
 ghost use Rattle.survey.specs.Layout.{courseEnd};
 ghost use Rattle.survey.specs.CourseLaws.{CourseFits, Courses, SumsSmall};
 use crate::layout;
@@ -18,6 +18,8 @@ use crate::section::Section;
 use crate::section::record_at;
 use crate::word::word;
 use arith::nearest::nearest_quotient;
+use heads::kind::HeadKind;
+use heads::length::fits_diameter;
 use measure::diameter::Diameter;
 use measure::diameter::Measured;
 use measure::pi::PI_OVER;
@@ -174,4 +176,20 @@ pub fn diameters(t: Sums, left: u32, right: u32, dh: u32) -> Dimensions
         return unfit;
     };
     Dimensions::Found(dip_point, d1, d2)
+}
+
+// What was found, and then refusal 14, where D2 does not allow the length of one head.
+pub fn heads_tested(found: Dimensions, kind: HeadKind, l3: u32) -> Dimensions
+    ensures { λ r. ⌜ r ≡ headsTested kind l3 «found» ⌝ }
+{
+    let Dimensions::Found(_, _, d2) = found else {
+        return found;
+    };
+    if fits_diameter(kind, d2, l3) {
+        return found;
+    }
+    Dimensions::Refused(Refusal {
+        number: 14,
+        place: 0,
+    })
 }

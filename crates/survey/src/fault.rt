@@ -7,7 +7,7 @@ ghost use Rattle.survey.specs.Layout.{headerEnd};
 ghost use Rattle.survey.specs.SectionLaws.{Readable};
 ghost use Rattle.survey.specs.SurveyLaws.{NumbersFit};
 ghost use Rattle.survey.specs.Fault.{faultWith, unknown, sizeFault, countFault, placeFault, passed, numbersPass};
-ghost use Rattle.survey.specs.Fault.{lengthsFault, diameterFault, dimensionFault, rowFault, headedFault, faultAs, faultOf};
+ghost use Rattle.survey.specs.Fault.{lengthsFault, diameterFault, headLengthFault, dimensionFault, rowFault, headedFault, faultAs, faultOf};
 use crate::dimensions::allowance;
 use crate::dimensions::fitting;
 use crate::dimensions::head_diameter;
@@ -28,6 +28,8 @@ use crate::section::is_placed;
 use crate::section::layout_tested;
 use crate::sentence;
 use crate::word::word;
+use heads::kind::HeadKind;
+use heads::length::shortest_of;
 use measure::diameter::Diameter;
 use measure::diameter::Measured;
 use refusal::Verdict;
@@ -171,7 +173,23 @@ fn diameter_fault(f: Format, s: &[u8]) -> Fault
     }
 }
 
-// Refusals 6 and 7, which only a file that passes the others can have.
+// Refusal 14: the length of one cap, and D2, whose half is its limit.
+fn head_length_fault(f: Format, s: &[u8]) -> Fault
+    requires { ⌜ Readable f × NumbersFit f (now s) ⌝ }
+    ensures { λ r. ⌜ r ≡ headLengthFault f (now (s .entry)) ⌝ }
+{
+    let t = file_sums(f, s);
+    let d2 = head_diameter(t, word(s, layout::LEFT), word(s, layout::RIGHT)) as u32;
+    fault_with(
+        sentence::OF_HEAD_LENGTH,
+        d2,
+        word(s, layout::L3) as u64,
+        shortest_of(HeadKind::SphericalCap),
+        d2 / 2,
+    )
+}
+
+// Refusals 6, 7 and 14, which only a file that passes the first five can have.
 fn dimension_fault(f: Format, s: &[u8], number: u32, place: u32) -> Fault
     requires { ⌜ Readable f × (f .header ≤ length (now s)) ⌝ }
     ensures { λ r. ⌜ r ≡ dimensionFault f (now (s .entry)) number place ⌝ }
@@ -182,7 +200,10 @@ fn dimension_fault(f: Format, s: &[u8], number: u32, place: u32) -> Fault
     if number == 6 {
         return lengths_fault(f, s);
     }
-    diameter_fault(f, s)
+    if number == 7 {
+        return diameter_fault(f, s);
+    }
+    head_length_fault(f, s)
 }
 
 // Refusals 9 and 10: the row's height is DH at most.
@@ -210,6 +231,7 @@ fn headed_fault(f: Format, s: &[u8], number: u32, place: u32) -> Fault
         5 => number_fault(f, s, place),
         6 => dimension_fault(f, s, 6, place),
         7 => dimension_fault(f, s, 7, place),
+        14 => dimension_fault(f, s, 14, place),
         8 => fault_with(sentence::OF_LENT_TABLE, 0, 0, 0, 0),
         9 => row_fault(s, sentence::OF_FALLING_ROW, place),
         10 => row_fault(s, sentence::OF_ROW_BELOW_ZERO, place),

@@ -79,7 +79,7 @@ fn header_limits(f: Format, s: &[u8], w: usize) -> Limits
     let offset = offset_limits(f, s);
     let kind = HeadKind::of(word(s, layout::KIND));
     let list = [
-        between(0, 1),
+        between(0, 2),
         between(Diameter::SMALLEST, Diameter::LARGEST),
         between(SHORTEST_SHELL, LONGEST_SHELL),
         circumference,

@@ -1,4 +1,4 @@
-// Refusals 1 to 7 in their order, and the diameters of a file that none of them is given to.
+// Refusals 1 to 7 and 14 in their order, and the diameters of a file that none of them is given to.
 ghost use mathlib.Core.Path.{_≡_};
 ghost use Prim.Native.Nat.{_≤_};
 ghost use Rattle.refusal.specs.Test.{verdict};
@@ -11,6 +11,7 @@ ghost use Rattle.survey.specs.SurveyLaws.{NumbersFit};
 use crate::dimensions::Dimensions;
 use crate::dimensions::Sums;
 use crate::dimensions::diameters;
+use crate::dimensions::heads_tested;
 use crate::dimensions::lengths_fit;
 use crate::dimensions::sums_over;
 use crate::format::Format;
@@ -20,6 +21,7 @@ use crate::numbers::numbers_tested;
 use crate::section::courses;
 use crate::section::layout_tested;
 use crate::word::word;
+use heads::kind::HeadKind;
 use refusal::Refusal;
 use refusal::Verdict;
 use refusal::limits::is_within;
@@ -33,7 +35,7 @@ pub fn file_sums(f: Format, s: &[u8]) -> Sums
     sums_over(courses(f, s), s)
 }
 
-// A file that passes refusals 1 to 5: refusals 6 and 7.
+// A file that passes refusals 1 to 5: refusals 6, 7 and 14.
 fn measured(f: Format, s: &[u8]) -> Dimensions
     requires { ⌜ Readable f × NumbersFit f (now s) ⌝ }
     ensures { λ r. ⌜ r ≡ judgedBy f (now (s .entry)) (verdict (dimensionTests f (now (s .entry)))) ⌝ }
@@ -45,12 +47,14 @@ fn measured(f: Format, s: &[u8]) -> Dimensions
             place: 0,
         });
     }
-    diameters(
+    let found = diameters(
         t,
         word(s, layout::LEFT),
         word(s, layout::RIGHT),
         word(s, layout::DH),
-    )
+    );
+    let kind = HeadKind::of(word(s, layout::KIND));
+    heads_tested(found, kind, word(s, layout::L3))
 }
 
 // A file of any bytes, of any length, in a format.

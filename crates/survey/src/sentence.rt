@@ -21,18 +21,21 @@ pub const OF_SHELL_DIAMETER: u32 = 23;
 
 pub const OF_HEAD_DIAMETER: u32 = 24;
 
+// L3 of spherical caps.
+pub const OF_HEAD_LENGTH: u32 = 25;
+
 // The table that a caller lends.
-pub const OF_LENT_TABLE: u32 = 25;
+pub const OF_LENT_TABLE: u32 = 26;
 
 // A row below the row before, and one below zero.
-pub const OF_FALLING_ROW: u32 = 26;
+pub const OF_FALLING_ROW: u32 = 27;
 
-pub const OF_ROW_BELOW_ZERO: u32 = 27;
+pub const OF_ROW_BELOW_ZERO: u32 = 28;
 
 // What a lookup is asked for: a dip height above the tank, a volume above the last row.
-pub const OF_HEIGHT: u32 = 28;
+pub const OF_HEIGHT: u32 = 29;
 
-pub const OF_VOLUME: u32 = 29;
+pub const OF_VOLUME: u32 = 30;
 
 // And last a refusal that is not a survey's.
-pub const OF_UNKNOWN: u32 = 30;
+pub const OF_UNKNOWN: u32 = 31;

@@ -35,7 +35,7 @@ row-holds v table i l e =
     let h = heightOf v i in
     record {
       restored = sym (ap (λ z. z +ℤ sharesAt v h) e ∙ -ℤ-+ℤ-cancel (pos (grossRow v i)) (sharesAt v h));
-      slabs = λ count some. condition3 (v .tank) (l .tank) h count (λ part. omega (arith, some part));
+      slabs = λ cuts some. condition3 (v .tank) (l .tank) h cuts (λ part. (omega (arith, some part .0), omega (arith, some part .1)));
     }
 
 -- what follows from a cell that is the net row holds of every row of the table that a call leaves ..

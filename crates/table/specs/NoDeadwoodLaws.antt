@@ -1,5 +1,5 @@
 -- A survey without deadwood: its net rows are its gross rows, so none falls below the row before and none is below zero. Where it passes
--- refusals 1 to 8 it is therefore answered with a table. Assumes nothing.
+-- refusals 1 to 8 and 14 it is therefore answered with a table. Assumes nothing.
 use Prim.Native.Nat.{ℕ, zero, suc, _≤_}
 use mathlib.Core.Path.{_≡_, refl, _∙_}
 use mathlib.Core.Bool.{true}

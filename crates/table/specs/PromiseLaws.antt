@@ -1,14 +1,16 @@
 -- What a caller takes from the statement of the call that makes a table, in the paper's own words: of every row that the answer counts, the
--- cell is gross less all shares, the gross row is the cell plus all shares, and condition 3 holds for any counts of slabs of shell, flanges
--- and heads. Assumes nothing.
+-- cell is gross less all shares, the gross row is the cell plus all shares, and condition 3 holds for any slabs of shell and flanges and any
+-- cut of the heads. Assumes nothing.
 use Prim.Native.Nat.{ℕ, zero, suc, _<_}
 use mathlib.Core.Path.{_≡_}
 use mathlib.Core.List.{List}
+use native.Mathlib.Omega.{arith}
 use lib.IntN.{pos, _+ℤ_, _-ℤ_}
 use lib.ListN.{getD}
 use Rattle.measure.specs.declared.diameter.Diameter.{Diameter}
 use Rattle.measure.specs.Quantity.{diameterUnits}
 use Rattle.schedule.specs.Rows.{rowHeight}
+use Rattle.slabs.specs.Slab.{Cut, Some}
 use Rattle.tank.specs.Tank.{grossAt}
 use Rattle.tank.specs.TotalLaws.{InWords, in-words}
 use Rattle.deadwood.specs.Share.{sharesOf}
@@ -18,16 +20,20 @@ use Rattle.table.specs.declared.make.Made.{Made}
 use Rattle.table.specs.Rows.{netAt}
 use Rattle.table.specs.Condition3.{NetRowAt, Condition3At, EveryRow}
 
--- a count for each of the three parts
-abbrev counts : (n1 n2 n3 : ℕ) → ℕ → ℕ
-counts n1 n2 n3 zero = n1
-counts n1 n2 n3 (suc zero) = n2
-counts n1 n2 n3 (suc (suc k)) = n3
+-- so many slabs, of a part that is cut into levels alone
+abbrev slabs : ℕ → Cut
+slabs n = record { levels = n; lengths = 1 }
 
-some-slabs : (n1 n2 n3 : ℕ) → 0 < n1 → 0 < n2 → 0 < n3 → (part : ℕ) → 0 < counts n1 n2 n3 part
-some-slabs n1 n2 n3 p q r zero = p
-some-slabs n1 n2 n3 p q r (suc zero) = q
-some-slabs n1 n2 n3 p q r (suc (suc k)) = r
+-- a cut for each of the three parts
+abbrev cuts : (n1 n2 : ℕ) → Cut → ℕ → Cut
+cuts n1 n2 heads zero = slabs n1
+cuts n1 n2 heads (suc zero) = slabs n2
+cuts n1 n2 heads (suc (suc k)) = heads
+
+some-slabs : (n1 n2 : ℕ) (heads : Cut) → 0 < n1 → 0 < n2 → Some heads → (part : ℕ) → Some (cuts n1 n2 heads part)
+some-slabs n1 n2 heads p q r zero = (p, omega arith)
+some-slabs n1 n2 heads p q r (suc zero) = (q, omega arith)
+some-slabs n1 n2 heads p q r (suc (suc k)) = r
 
 module _ (v : Survey) (d1 d2 : Diameter) (rows : ℕ) (left : List ℕ) (i : ℕ) (counted : i < rows) where
   abbrev height : ℕ
@@ -43,5 +49,6 @@ module _ (v : Survey) (d1 d2 : Diameter) (rows : ℕ) (left : List ℕ) (i : ℕ
   gross-taken every = every i counted .restored
 
   pub slabs-taken : EveryRow Condition3At v (Made.Table d1 d2 rows) left
-      → (n1 n2 n3 : ℕ) → 0 < n1 → 0 < n2 → 0 < n3 → InWords (v .tank) height (grossAt (v .tank) height) n1 n2 n3
-  slabs-taken every n1 n2 n3 p q r = in-words (v .tank) _ _ (counts n1 n2 n3) (every i counted .slabs (counts n1 n2 n3) (some-slabs n1 n2 n3 p q r))
+      → (n1 n2 : ℕ) (heads : Cut) → 0 < n1 → 0 < n2 → Some heads → InWords (v .tank) height (grossAt (v .tank) height) n1 n2 heads
+  slabs-taken every n1 n2 heads p q r =
+      in-words (v .tank) _ _ (cuts n1 n2 heads) (every i counted .slabs (cuts n1 n2 heads) (some-slabs n1 n2 heads p q r))

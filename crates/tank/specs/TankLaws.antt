@@ -6,7 +6,7 @@ use Rattle.measure.specs.Diameter.{smallest, largest}
 use Rattle.measure.specs.Quantity.{diameterUnits}
 use Rattle.circle.specs.Correction.{correctedHeight}
 use Rattle.circle.specs.CorrectionLaws.{corrected-at-most}
-use Rattle.heads.specs.Length.{longest}
+use Rattle.heads.specs.LengthLaws.{HeadLimits}
 use Rattle.heads.specs.Volume.{headsVolume}
 use Rattle.heads.specs.VolumeLaws.{mostHeads}
 use Rattle.tank.specs.declared.tank.Tank.{Tank}
@@ -14,7 +14,7 @@ use Rattle.tank.specs.Limits.{longestShell, longestFlange}
 use Rattle.tank.specs.Part.{Part, cylinderVolume, volumeOf, gross}
 use Rattle.tank.specs.Tank.{partsOf, filledTo, filledAt, grossAt}
 use Rattle.tank.specs.CylinderLaws.{mostCylinder}
-use Rattle.tank.specs.PartLaws.{longestOf, PartLimits, EachWithinLimits, none, more, gross-at-most}
+use Rattle.tank.specs.PartLaws.{LengthLimits, PartLimits, EachWithinLimits, none, more, gross-at-most}
 
 pub record TankLimits (t : Tank) : Type 0 where
   pub dh-low : smallest ≤ diameterUnits (t .dh)
@@ -25,7 +25,7 @@ pub record TankLimits (t : Tank) : Type 0 where
   pub d2-high : diameterUnits (t .d2) ≤ largest
   pub l1-high : t .l1 ≤ longestShell
   pub l2-high : t .l2 ≤ longestFlange
-  pub l3-high : t .l3 ≤ longest
+  pub heads : HeadLimits (t .kind) (diameterUnits (t .d2)) (t .l3)
 
 -- H1 and H2 at dip height H
 abbrev pub shellAt : Tank → ℕ → ℕ
@@ -43,9 +43,9 @@ unfolding grossAt gross volumeOf filledAt partsOf
 gross-by-parts t h = omega arith
 
 -- a part within its limits is sound at its corrected height
-part-sound : (dh h : ℕ) (p : Part) → smallest ≤ p .d → p .d ≤ largest → p .l ≤ longestOf (p .shape) → PartLimits (filledTo dh h p)
-part-sound dh h p d-low d-high l-high =
-    record { h-high = corrected-at-most (p .d) dh h; d-low = omega arith; d-high = d-high; l-high = l-high }
+part-sound : (dh h : ℕ) (p : Part) → smallest ≤ p .d → p .d ≤ largest → LengthLimits (p .shape) (p .d) (p .l) → PartLimits (filledTo dh h p)
+part-sound dh h p d-low d-high length =
+    record { h-high = corrected-at-most (p .d) dh h; d-low = omega arith; d-high = d-high; length = length }
 
 pub parts-within-limits : (t : Tank) (h : ℕ) → TankLimits t → EachWithinLimits (filledAt t h)
 unfolding filledAt partsOf
@@ -53,7 +53,7 @@ parts-within-limits t h limits =
     let flanges : 2 * t .l2 ≤ longestShell = omega arith in
     more (part-sound _ h _ (limits .d1-low) (limits .d1-high) (limits .l1-high))
     (more (part-sound _ h _ (limits .d2-low) (limits .d2-high) flanges)
-    (more (part-sound _ h _ (limits .d2-low) (limits .d2-high) (limits .l3-high)) none))
+    (more (part-sound _ h _ (limits .d2-low) (limits .d2-high) (limits .heads)) none))
 
 abbrev pub mostGross : ℕ
 mostGross = 2 * mostCylinder + mostHeads

@@ -19,7 +19,7 @@ sentences =
     lines
     (
     -- 0 on: the header's words, in their order
-    "head kind $: must be 0 (flat) or 1 (half-ellipsoid)" ∷
+    "head kind $: must be 0 (flat), 1 (half-ellipsoid) or 2 (spherical cap)" ∷
     "dip diameter DH $ (~ mm): must be < to >" ∷
     "shell length L1 $ (~ mm): must be < to >" ∷
     "circumference left $ (~ mm): must be < to >" ∷
@@ -47,14 +47,15 @@ sentences =
     "sum of the course lengths $ (~ mm): must be < to >, the shell length L1 give or take 100 for each course" ∷
     "shell diameter D1 $ (~ mm): must be < to > and at most 10000 from DH #" ∷
     "head diameter D2 $ (~ mm): must be < to > and at most 10000 from DH #" ∷
-    -- 25 on: the table
+    "head length L3 $ (~ mm): must be at most > for spherical caps, half the head diameter D2 #" ∷
+    -- 26 on: the table
     "lent table: must have a cell for each row" ∷
     "row # at dip height $ (~ mm): must not be below the row before; the deadwood is larger than the room there" ∷
     "row # at dip height $ (~ mm): must not be below zero" ∷
-    -- 28 on: the lookups
+    -- 29 on: the lookups
     "dip height $ (~ mm): must be at most DH >" ∷
     "volume $ (~ L): must be at most the last row, >" ∷
-    -- 30 on: any other
+    -- 31 on: any other
     "refusal # at place $: not one of this survey's" ∷
     [])
 

@@ -28,7 +28,7 @@ pub fn put_words(out: &mut [u8], at: usize, fault: Fault) -> usize
         blanks,
         fault.sentence as usize,
         b"\
-        head kind $: must be 0 (flat) or 1 (half-ellipsoid)\n\
+        head kind $: must be 0 (flat), 1 (half-ellipsoid) or 2 (spherical cap)\n\
         dip diameter DH $ (~ mm): must be < to >\n\
         shell length L1 $ (~ mm): must be < to >\n\
         circumference left $ (~ mm): must be < to >\n\
@@ -53,6 +53,7 @@ pub fn put_words(out: &mut [u8], at: usize, fault: Fault) -> usize
         sum of the course lengths $ (~ mm): must be < to >, the shell length L1 give or take 100 for each course\n\
         shell diameter D1 $ (~ mm): must be < to > and at most 10000 from DH #\n\
         head diameter D2 $ (~ mm): must be < to > and at most 10000 from DH #\n\
+        head length L3 $ (~ mm): must be at most > for spherical caps, half the head diameter D2 #\n\
         lent table: must have a cell for each row\n\
         row # at dip height $ (~ mm): must not be below the row before; the deadwood is larger than the room there\n\
         row # at dip height $ (~ mm): must not be below zero\n\

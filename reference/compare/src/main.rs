@@ -4,8 +4,9 @@
 //!
 //! `compare TANKTABLE TANKLOOKUP FOLDER`: the paths of the programs, and a
 //! folder for the survey given by `-f` and those on which the two differ. Ends
-//! with 1 if they differ anywhere, or if a refusal, a sentence or a miss of the
-//! course lengths that can occur was seen too seldom.
+//! with 1 if they differ anywhere, or if a refusal, a sentence, a miss of the
+//! course lengths or an edge of spherical caps that can occur was seen too
+//! seldom.
 
 mod lookups;
 mod printed;
@@ -13,8 +14,9 @@ mod seen;
 mod surveys;
 
 use printed::{Comparison, Programs};
-use seen::{Misses, Seen};
+use seen::Seen;
 use std::path::PathBuf;
+use surveys::Tried;
 
 /// How many cases there are of each seed.
 const SURVEYS: u64 = 6_000;
@@ -42,13 +44,11 @@ fn main() {
     };
 
     let mut mismatches = 0;
-    let mut surveys_seen = Seen::new(1..=10);
-    let mut misses = Misses::default();
+    let mut tried = Tried::new();
     for seed in SURVEY_SEEDS {
-        mismatches += surveys::compare(seed, SURVEYS, &folder, &mut surveys_seen, &mut misses);
+        mismatches += surveys::compare(seed, SURVEYS, &folder, &mut tried);
     }
-    let mut often_enough = surveys_seen.print("surveys");
-    often_enough &= misses.print();
+    let mut often_enough = tried.print();
 
     let mut lookups_seen = Seen::new(11..=13);
     for seed in LOOKUP_SEEDS {

@@ -41,7 +41,7 @@ impl Comparison<'_> {
         Comparison {
             programs,
             folder,
-            surveys: Seen::new([1, 2, 3, 4, 5, 6, 7, 9]),
+            surveys: Seen::new([1, 2, 3, 4, 5, 6, 7, 9, 14]),
             lookups: Seen::new([12, 13]),
             sentences: Sentences::default(),
             runs: 0,

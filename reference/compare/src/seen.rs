@@ -1,6 +1,7 @@
-//! How often each refusal, each miss of the course lengths and each of the
-//! sentences was seen.
+//! How often each refusal, each miss of the course lengths, each edge of
+//! spherical caps and each of the sentences was seen.
 
+use reference::caps::Cap;
 use reference::misses::Miss;
 use std::collections::BTreeMap;
 
@@ -66,20 +67,51 @@ impl Misses {
 
     /// Prints the counts, and says whether each miss was seen often enough.
     pub fn print(&self) -> bool {
-        let counts = Miss::ALL.map(|miss| (miss, self.counts.get(&miss).copied().unwrap_or(0)));
-        let told = counts.map(|(miss, count)| {
-            let too_few = if count < ENOUGH { ", TOO FEW" } else { "" };
-            format!("{}: {count}{too_few}", miss.name())
-        });
         println!("surveys by how much their course lengths miss L1");
-        println!("  {}", told.join("; "));
-        counts.iter().all(|&(_, count)| count >= ENOUGH)
+        print_all(Miss::ALL, Miss::name, &self.counts)
     }
 }
 
+/// Surveys with spherical caps, by what they try.
+#[derive(Default)]
+pub struct Caps {
+    counts: BTreeMap<Cap, u64>,
+}
+
+impl Caps {
+    /// Counts a survey that met this refusal, or 0.
+    pub fn add(&mut self, survey: &[u8], refusal: u32) {
+        for cap in Cap::of_survey(survey, refusal) {
+            *self.counts.entry(cap).or_default() += 1;
+        }
+    }
+
+    /// Prints the counts, and says whether each was seen often enough.
+    pub fn print(&self) -> bool {
+        println!("surveys with spherical caps");
+        print_all(Cap::ALL, Cap::name, &self.counts)
+    }
+}
+
+/// Prints how often each of these was seen, on one line, and says whether that
+/// was often enough.
+fn print_all<T: Copy + Ord, const N: usize>(
+    all: [T; N],
+    name: impl Fn(T) -> &'static str,
+    counts: &BTreeMap<T, u64>,
+) -> bool {
+    let counts = all.map(|one| (name(one), counts.get(&one).copied().unwrap_or(0)));
+    let told = counts.map(|(name, count)| {
+        let too_few = if count < ENOUGH { ", TOO FEW" } else { "" };
+        format!("{name}: {count}{too_few}")
+    });
+    println!("  {}", told.join("; "));
+    counts.iter().all(|&(_, count)| count >= ENOUGH)
+}
+
 /// How many sentences there are: two for refusal 1, two for 2, three for 3,
-/// thirteen for 5, two for 7, one for each of 4, 6, 9, 12 and 13.
-const SENTENCES: usize = 27;
+/// thirteen for 5, two for 7, one for each of 4, 6, 9, 12, 13 and 14.
+const SENTENCES: usize = 28;
 
 /// The sentences on standard error, each with its numbers left out.
 #[derive(Default)]

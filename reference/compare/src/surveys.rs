@@ -1,6 +1,6 @@
 //! Surveys: the whole answer, and every lent cell.
 
-use crate::seen::{Misses, Seen};
+use crate::seen::{Caps, Misses, Seen};
 use compare::calls::{self, TableAnswer};
 use reference::fill_table;
 use reference::generate::{case, Case};
@@ -17,15 +17,46 @@ struct Outcome {
     memory: Vec<u32>,
 }
 
+/// What the compared surveys were.
+pub struct Tried {
+    refusals: Seen,
+    misses: Misses,
+    caps: Caps,
+}
+
+impl Tried {
+    /// None yet.
+    pub fn new() -> Tried {
+        Tried {
+            refusals: Seen::new((1..=10).chain([14])),
+            misses: Misses::default(),
+            caps: Caps::default(),
+        }
+    }
+
+    fn add(&mut self, survey: &[u8], refusal: u32) {
+        self.refusals.add(refusal);
+        self.misses.add(survey);
+        self.caps.add(survey, refusal);
+    }
+
+    /// Prints all of it, and says whether it was often enough.
+    pub fn print(&self) -> bool {
+        let refusals = self.refusals.print("surveys");
+        let misses = self.misses.print();
+        let caps = self.caps.print();
+        refusals && misses && caps
+    }
+}
+
 /// Compares the first cases of a seed; returns how many differ.
-pub fn compare(seed: u64, cases: u64, folder: &Path, seen: &mut Seen, misses: &mut Misses) -> u64 {
+pub fn compare(seed: u64, cases: u64, folder: &Path, tried: &mut Tried) -> u64 {
     let mut mismatches = 0;
     for number in 0..cases {
         let case = case(seed, number);
         let ours = outcome(&case, calls::table);
         let reference = outcome(&case, by_reference);
-        seen.add(reference.answer.refusal);
-        misses.add(&case.survey);
+        tried.add(&case.survey, reference.answer.refusal);
         if ours != reference {
             mismatches += 1;
             report(seed, number, &ours, &reference);

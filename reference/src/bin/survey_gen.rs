@@ -1,5 +1,6 @@
 //! Writes generated cases and counts their refusals.
 
+use reference::caps::Cap;
 use reference::generate::lookups::{lookup_case, Asked};
 use reference::generate::{case, Case};
 use reference::misses::Miss;
@@ -12,6 +13,7 @@ const USAGE: &str = "usage:
   survey_gen answer SEED K         the answer to case K: accepted D1 D2 ROWS, or refused N P
   survey_gen count SEED N          how often each refusal comes in the first N cases
   survey_gen misses SEED N         how often their course lengths miss L1, and by how much
+  survey_gen caps SEED N           how often they have spherical caps, and of what kind
   survey_gen lookup SEED K         lookup case K: DH STEP litres|height ASKED, then the rows
   survey_gen lookup-answer SEED K  the answer to lookup case K, in whole u or v
   survey_gen lookup-count SEED N   how often each refusal comes in the first N lookup cases";
@@ -33,11 +35,14 @@ fn main() {
             .expect("standard output can be written"),
         "table" => println!("{}", case(seed, number).table_len),
         "answer" => println!("{}", answer(&case(seed, number))),
-        "count" => count(number, |k| {
-            let case = case(seed, k);
-            make_table(&case.survey, case.table_len).err()
+        "count" => count(number, |k| refusal(&case(seed, k))),
+        "misses" => count_all(&Miss::ALL, Miss::name, number, |k| {
+            Miss::of_survey(&case(seed, k).survey).into_iter().collect()
         }),
-        "misses" => count_misses(seed, number),
+        "caps" => count_all(&Cap::ALL, Cap::name, number, |k| {
+            let case = case(seed, k);
+            Cap::of_survey(&case.survey, number_of(refusal(&case)))
+        }),
         "lookup" => println!("{}", lookup(seed, number)),
         "lookup-answer" => println!("{}", lookup_answer(seed, number)),
         "lookup-count" => count(number, |k| lookup_case(seed, k).answer().err()),
@@ -46,6 +51,15 @@ fn main() {
             std::process::exit(2);
         }
     }
+}
+
+fn refusal(case: &Case) -> Option<Refusal> {
+    make_table(&case.survey, case.table_len).err()
+}
+
+/// A refusal's number, 0 for none.
+fn number_of(refusal: Option<Refusal>) -> u32 {
+    refusal.map_or(0, |refusal| refusal.number)
 }
 
 fn refused(refusal: Refusal) -> String {
@@ -83,23 +97,25 @@ fn lookup_answer(seed: u64, number: u64) -> String {
     }
 }
 
-/// Prints how often each miss comes in cases that pass refusals 1 to 5.
-fn count_misses(seed: u64, cases: u64) {
-    let misses: Vec<Miss> = (0..cases)
-        .filter_map(|k| Miss::of_survey(&case(seed, k).survey))
-        .collect();
-    for miss in Miss::ALL {
-        let count = misses.iter().filter(|&&seen| seen == miss).count();
-        println!("{}: {count}", miss.name());
+/// Prints how often each of some things is tried in cases.
+fn count_all<T: Copy + PartialEq>(
+    all: &[T],
+    name: impl Fn(T) -> &'static str,
+    cases: u64,
+    tried_in: impl Fn(u64) -> Vec<T>,
+) {
+    let tried: Vec<T> = (0..cases).flat_map(tried_in).collect();
+    for &thing in all {
+        let count = tried.iter().filter(|&&seen| seen == thing).count();
+        println!("{}: {count}", name(thing));
     }
 }
 
 /// Prints how many of the cases are accepted and how many meet each refusal.
 fn count(cases: u64, refusal_of: impl Fn(u64) -> Option<Refusal>) {
-    let mut counts = [0u64; 14];
+    let mut counts = [0u64; 15];
     for k in 0..cases {
-        let number = refusal_of(k).map_or(0, |refusal| refusal.number);
-        counts[number as usize] += 1;
+        counts[number_of(refusal_of(k)) as usize] += 1;
     }
     println!("accepted {}", counts[0]);
     for (number, count) in counts.iter().enumerate().skip(1) {

@@ -98,9 +98,10 @@ fn sections(random: &mut Random, plan: &Plan, file: &mut Vec<u8>) {
     }
 }
 
-/// Refusal 4.
+/// Refusal 4, also for kinds of which one byte alone is sound. A sound kind may
+/// not go with L3: refusal 5 or 14.
 fn head_kind(random: &mut Random, file: &mut [u8]) {
-    let kind = random.pick(&[0, 1, 2, 3, 256, 0x0100_0000, 0x8000_0000, u32::MAX]);
+    let kind = random.pick(&[0, 1, 2, 3, 4, 258, 0x0200_0000, 0x8000_0000, u32::MAX]);
     put(file, 0, kind);
 }
 

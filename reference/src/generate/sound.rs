@@ -2,8 +2,8 @@
 //! diameter and a wide step, so that their tables are quickly made.
 
 use super::diameters::{courses_of_outer, pair_of_outer};
-use super::lengths;
 use super::plan::{Layout, Plan};
+use super::{caps, lengths};
 use crate::deadwood::Deadwood;
 use crate::dimensions::wall;
 use crate::heights::DipHeight;
@@ -35,13 +35,17 @@ pub fn wild_deadwood(random: &mut Random) -> Plan {
 /// A survey without deadwood with the wished diameters, as near as the
 /// circumferences' limits allow.
 pub fn with_diameters(random: &mut Random, dh: u32, d1: u32, d2: u32) -> Plan {
-    let kind = random.between(0, 1);
+    let kind = random.between(limits::HEAD_KIND.low, limits::HEAD_KIND.high);
     let l1 = l1(random);
     let mut courses = bare_courses(random, l1);
     let wall = wall(&courses) as u32;
     courses_of_outer(random, &mut courses, d1 + wall);
     let (left, right) = pair_of_outer(random, d2 + wall);
-    let l3_limits = limits::l3_limits(kind);
+    let l3 = if kind == limits::SPHERICAL_CAP {
+        caps::sound_length(random, d2)
+    } else {
+        in_limits(random, limits::l3_limits(kind))
+    };
     let mut plan = Plan {
         kind,
         dh,
@@ -49,7 +53,7 @@ pub fn with_diameters(random: &mut Random, dh: u32, d1: u32, d2: u32) -> Plan {
         left,
         right,
         l2: in_limits(random, limits::L2),
-        l3: in_limits(random, l3_limits),
+        l3,
         step: step(random),
         courses,
         deadwood: Vec::new(),

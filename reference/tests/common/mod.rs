@@ -1,6 +1,21 @@
 //! Survey files written by hand for the tests, apart from the generator.
 #![allow(dead_code)]
 
+use reference::slabs::{Counts, Slabs};
+use reference::survey::{Course, Survey};
+
+pub const BOTH_SLABS: [Slabs; 2] = [Slabs::Fitting, Slabs::Covering];
+
+/// The same count for every part.
+pub fn counts_of(n: u32) -> Counts {
+    Counts {
+        shell: n,
+        flanges: n,
+        heads: n,
+        cap_lengths: n,
+    }
+}
+
 /// The words of the survey under "Readings off the stick": "Kind 0, DH 50,000,
 /// L1 100,000, ends 160,221, L2 0, step 10,000, one course (160,221, 160,221,
 /// 100,000, 500), no deadwood".
@@ -54,10 +69,38 @@ pub fn paper_survey_but(at: usize, word: u32) -> Vec<u8> {
     file
 }
 
+/// The paper's survey with heads of this kind and length.
+pub fn paper_survey_headed(kind: u32, l3: u32) -> Vec<u8> {
+    let mut file = paper_survey_but(0, kind);
+    put(&mut file, 24, l3);
+    file
+}
+
 /// A refusal's number and place, or (0, 0) for an accepted survey.
 pub fn outcome(survey: &[u8], table_len: usize) -> (u32, u32) {
     match reference::make_table(survey, table_len) {
         Ok(_) => (0, 0),
         Err(refusal) => (refusal.number, refusal.place),
+    }
+}
+
+/// A tank of these sizes; its diameters are given beside it.
+pub fn tank_of(kind: u32, dh: u32, l1: u32, l2: u32, l3: u32) -> Survey {
+    Survey {
+        kind,
+        dh,
+        l1,
+        left: 150_000,
+        right: 150_000,
+        l2,
+        l3,
+        step: 10_000,
+        courses: vec![Course {
+            first: 150_000,
+            second: 150_000,
+            length: l1,
+            thickness: 100,
+        }],
+        deadwood: Vec::new(),
     }
 }

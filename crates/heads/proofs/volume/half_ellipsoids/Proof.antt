@@ -12,7 +12,7 @@ use Rattle.measure.specs.Pi.{piOver, piUnder}
 use Rattle.heads.specs.declared.kind.HeadKind.the-variants.{HalfEllipsoid}
 use Rattle.heads.specs.Length.{longest}
 use Rattle.heads.specs.Volume.{headsVolume}
-use Rattle.heads.specs.VolumeLaws.{mostHeads, heads-at-most}
+use Rattle.heads.specs.VolumeLaws.{mostHeads, half-ellipsoids-at-most}
 use Rattle.heads.proofs.volume.half_ellipsoids.Statement.{statement}
 use Rattle.heads.proofs.volume.half_ellipsoids.Tie as tie
 
@@ -54,7 +54,7 @@ module _ (c : tie.After-nearest-of-product) where
   small : c .nearest-of-product .result ≤ mostHeads
   small =
       let p = c .before .pre in
-      rw rounded (heads-at-most HalfEllipsoid _ _ _ (p .0) (p .1) (p .2) (p .3))
+      rw rounded (half-ellipsoids-at-most _ _ _ (p .0) (p .1) (p .2) (p .3))
 
 pub half-ellipsoids-spec : {M : Type 1} → statement M
 half-ellipsoids-spec =

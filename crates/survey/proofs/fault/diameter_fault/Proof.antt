@@ -32,7 +32,7 @@ fits : (c : tie.After-fitting)
 fits c = rw (shell (c .before .before .before .before), c .before .before .before .before .before .word .ensures) at (c .fitting .ensures)
 
 -- both are small
-small : (c : tie.After-fitting) → (c .before .before .before .before .shell-diameter .result < 2 ^ 63) × (c .before .head-diameter .result < 2 ^ 63)
+small : (c : tie.After-fitting) → (c .before .before .before .before .shell-diameter .result < 2 ^ 63) × (c .before .head-diameter .result < 2 ^ 32)
 small c =
     let start = c .before .before .before .before .before .before .before .before in
     rw (shell (c .before .before .before .before), heads (c .before)) (diameters-small (start .args .f) (start .args .s .now) (start .pre .1))

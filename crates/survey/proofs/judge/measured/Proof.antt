@@ -1,18 +1,16 @@
 -- `survey::judge::measured` meets its contract: the sums are the definition's, and so are the tests made of them. Assumes nothing.
-use mathlib.Core.Bool.{Bool, true, false}
-use mathlib.Core.List.{List}
-use mathlib.Core.Path.{_≡_, refl, sym, _∙_}
+use mathlib.Core.List.{List, [], _∷_}
+use mathlib.Core.Path.{_≡_, sym, _∙_}
 use Prim.Native.Nat.{ℕ}
 use borrow.Author.Tests.{not-true, not-false}
-use Rattle.laws.specs.Order.{pick}
-use Rattle.measure.specs.Quantity.{diameter}
-use Rattle.refusal.specs.declared.Refusal.{Refusal}
-use Rattle.refusal.specs.declared.Verdict.{Verdict}
-use Rattle.survey.specs.declared.dimensions.Dimensions.{Dimensions}
+use Rattle.laws.specs.BoolLaws.{by-test}
+use Rattle.refusal.specs.Test.{test, verdict}
+use Rattle.heads.specs.Kind.{kindOf}
+use Rattle.heads.specs.Length.{fitsDiameter}
 use Rattle.survey.specs.declared.format.Format.{Format}
 use Rattle.survey.specs.Word.{word}
-use Rattle.survey.specs.Layout.{l1At, dhAt}
-use Rattle.survey.specs.Dimensions.{sumsOf, lengthsFit, d1, d2, diametersFit, dimensions}
+use Rattle.survey.specs.Layout.{kindAt, dhAt, l1At, l3At}
+use Rattle.survey.specs.Dimensions.{sumsOf, lengthsFit, d1, d2, diametersFit, dimensions, headsTested}
 use Rattle.survey.specs.SurveyLaws.{dh-fits}
 use Rattle.survey.specs.Tests.{dimensionTests}
 use Rattle.survey.specs.Judged.{judgedBy}
@@ -20,11 +18,14 @@ use borrow.Author.Needs.{needs}
 use Rattle.survey.proofs.judge.measured.Statement.{statement}
 use Rattle.survey.proofs.judge.measured.Tie as tie
 
--- refusal 7, as a verdict
-by-fit : (f : Format) (s : List ℕ) (fit : Bool) (r : Refusal)
-    → pick fit (Dimensions.Found (diameter (word s dhAt)) (diameter (d1 f s)) (diameter (d2 f s))) (Dimensions.Refused r) ≡ judgedBy f s (pick fit Verdict.Passed (Verdict.Refused r))
-by-fit f s true r = refl
-by-fit f s false r = refl
+-- refusals 7 and 14, as a verdict
+by-fit : (f : Format) (s : List ℕ)
+    → headsTested (kindOf (word s kindAt)) (word s l3At) (dimensions (word s dhAt) (d1 f s) (d2 f s))
+    ≡ judgedBy f s (verdict (test 7 0 (diametersFit (word s dhAt) (d1 f s) (d2 f s)) ∷ test 14 0 (fitsDiameter (kindOf (word s kindAt)) (d2 f s) (word s l3At)) ∷ []))
+by-fit f s =
+    by-test (diametersFit (word s dhAt) (d1 f s) (d2 f s))
+    (λ near. rw near (by-test (fitsDiameter (kindOf (word s kindAt)) (d2 f s) (word s l3At)) (λ fits. rw fits) (λ long. rw long)))
+    (λ far. rw far)
 
 -- refusal 6, by the sums that the code made
 lengths : (c : tie.After-lengths-fit)
@@ -46,15 +47,19 @@ diameters-requires c κs =
 returns-2 : tie.Need-returns-2
 unfolding dimensionTests
 returns-2 c =
-    let start = c .before .before .before .before .before .before .before .before .before in
+    let start = c .before .before .before .before .before .before .before .before .before .before .before .before .before in
     let f = start .args .f in
     let s = start .args .s .now in
-    let found : c .diameters .result ≡ dimensions (word s dhAt) (d1 f s) (d2 f s) =
-    rw (c .before .before .before .before .before .before .before .file-sums .ensures .0, c .before .before .before .word2 .ensures, c .before .before .word3 .ensures, c .before .word4 .ensures) at (c .diameters .ensures) in
-    rw (sym (lengths (c .before .before .before .before .before)) ∙ not-false _ (c .before .before .before .before .if1 .left)) (found ∙ by-fit f s (diametersFit (word s dhAt) (d1 f s) (d2 f s)) _)
+    let of = c .before .before .before .before in
+    let found : of .diameters .result ≡ dimensions (word s dhAt) (d1 f s) (d2 f s) =
+    rw (of .before .before .before .before .before .before .before .file-sums .ensures .0, of .before .before .before .word2 .ensures, of .before .before .word3 .ensures, of .before .word4 .ensures) at (of .diameters .ensures) in
+    let heads : c .heads-tested .result ≡ headsTested (kindOf (word s kindAt)) (word s l3At) (dimensions (word s dhAt) (d1 f s) (d2 f s)) =
+    rw (found, c .before .before .of .ensures, c .before .before .before .word5 .ensures, c .before .word6 .ensures) at (c .heads-tested .ensures) in
+    rw (sym (lengths (of .before .before .before .before .before)) ∙ not-false _ (of .before .before .before .before .if1 .left)) (heads ∙ by-fit f s)
 
 pub measured-spec : {M : Type 1} → statement M
 measured-spec =
     tie.close
     (tie.spec (λ c κs. search needs) (λ c κs. search needs) (λ c κs. search needs) returns
-    (λ c κs. search needs) (λ c κs. search needs) (λ c κs. search needs) diameters-requires returns-2)
+    (λ c κs. search needs) (λ c κs. search needs) (λ c κs. search needs) diameters-requires
+    (λ c κs. search needs) (λ c κs. search needs) (λ c κs. search needs) (λ c κs. search needs) returns-2)

@@ -45,7 +45,7 @@ stored c =
     ∙ ap (netAt v) (ap dipUnits (c .before .before .before .row-height .ensures) ∙ ap (λ (d : ℕ). rowHeight d (v .step) (c .before .before .before .before .before .loop .i)) (c .before .before .before .before .before .before .before .before .units .ensures))
 
 loop-holds : tie.Need-loop-holds Inv-loop μ-loop
-loop-holds c = (omega arith, c .empty .ensures _ _, filled-none _ _)
+loop-holds c = (omega arith, c .empty .ensures _ (c .before .before .before .before .before .pre .0 .tank) _, filled-none _ _)
 
 row-height-requires : tie.Need-row-height-requires Inv-loop μ-loop
 row-height-requires c κs = rw (c .before .before .before .before .units .ensures) (some-step (c .before .before .before .before .before .before .before), omega (arith, c .before .before .before .before .before .before .before .pre .1))
@@ -62,10 +62,10 @@ net-of-requires c κs =
     (l .few, l .items)
 
 mul-t17 : tie.Need-mul-t17 Inv-loop μ-loop
-mul-t17 c = omega (arith, c .before .before .before .before .before .before .before .before .before .before .before .good)
+mul-t17 c = omega (arith, c .before .before .before .before .loop-test .taken, c .before .before .before .before .before .before .before .before .before .before .before .pre .2, c .before .before .before .before .before .before .before .before .before .before .before .good)
 
 slice-set-from-out : tie.Need-slice-set-from-out Inv-loop μ-loop
-slice-set-from-out c = omega (arith, c .before .before .before .before .before .loop .inv .2 .size)
+slice-set-from-out c = omega (arith, c .before .before .before .before .loop-test .taken, c .before .before .before .before .before .before .before .before .before .before .before .pre .2, c .before .before .before .before .before .loop .inv .2 .size)
 
 loop-again : tie.Need-loop-again Inv-loop μ-loop
 loop-again c =
@@ -89,4 +89,4 @@ pub net-rows-spec : {M : Type 1} → statement M
 net-rows-spec =
     tie.close
     (tie.spec Inv-loop μ-loop (λ c κs. tt) (λ c κs. tt) loop-holds row-height-requires on-to-requires gross-requires
-    net-of-requires mul-t17 slice-set-from-out (λ c. omega arith) (λ c. omega arith) loop-again same-length returns)
+    net-of-requires mul-t17 slice-set-from-out (λ c. omega (arith, c .before .before .before .before .loop-test .taken, c .before .before .before .before .before .before .before .before .before .before .before .pre .2, c .before .before .before .before .before .before .before .before .before .before .before .good)) (λ c. omega (arith, c .before .before .before .before .loop-test .taken)) loop-again same-length returns)

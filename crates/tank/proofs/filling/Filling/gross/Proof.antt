@@ -42,36 +42,37 @@ shellArea s = doubledArea (diameterUnits (s .args .t .d1)) (shellAt (s .args .t)
 abbrev flangeArea : tie.Start → ℕ
 flangeArea s = doubledArea (diameterUnits (s .args .t .d2)) (headsAt (s .args .t) (dipUnits (s .args .h)))
 
-shell-area : (c : tie.After-area) → c .area .result ≡ shellArea (c .before .before .before .before .before)
-shell-area c = c .area .ensures ∙ ap (λ f. f .shell .area) (c .before .before .before .before .before .pre .1)
+shell-area : (c : tie.After-area) → c .area .result ≡ shellArea (c .before .before .before .before .before .before)
+shell-area c = c .area .ensures ∙ ap (λ f. f .shell .area) (c .before .before .before .before .before .before .pre .1)
 
 flange-area : (c : tie.After-area2)
-    → c .area2 .result ≡ flangeArea (c .before .before .before .before .before .before .before .before)
+    → c .area2 .result ≡ flangeArea (c .before .before .before .before .before .before .before .before .before)
 flange-area c =
-    c .area2 .ensures ∙ ap (λ f. f .flanges .area) (c .before .before .before .before .before .before .before .before .pre .1)
+    c .area2 .ensures ∙ ap (λ f. f .flanges .area) (c .before .before .before .before .before .before .before .before .before .pre .1)
 
 cylinder-volume-requires : tie.Need-cylinder-volume-requires
 cylinder-volume-requires c κs =
-    let start = c .before .before .before .before .before .before in
+    let start = c .before .before .before .before .before .before .before in
     let limits = start .pre .0 in
     product-fits _ _ (start .args .t .l1) (shell-area (c .before)) (corrected-at-most _ _ _) (limits .d1-high) (limits .l1-high)
 
 cylinder-volume-requires-2 : tie.Need-cylinder-volume-requires-2
 cylinder-volume-requires-2 c κs =
-    let start = c .before .before .before .before .before .before .before .before .before in
+    let start = c .before .before .before .before .before .before .before .before .before .before in
     let limits = start .pre .0 in
     let flanges : 2 * start .args .t .l2 ≤ longestShell = omega (arith, limits .l2-high) in
     product-fits _ _ (2 * start .args .t .l2) (flange-area (c .before)) (corrected-at-most _ _ _) (limits .d2-high) flanges
 
 heads-volume-requires : tie.Need-heads-volume-requires
 heads-volume-requires c κs =
-    let limits = c .before .before .before .before .before .before .before .before .before .before .before .pre .0 in
-    (rw (c .corrected .ensures) (corrected-at-most _ _ _), omega (arith, limits .d2-low), limits .d2-high, limits .l3-high)
+    let start = c .before .before .before .before .before .before .before .before .before .before .before .before in
+    let limits = start .pre .0 in
+    rw (c .corrected .ensures) ((corrected-at-most _ _ _, omega (arith, limits .d2-low), limits .d2-high, limits .heads), ap (λ f. f .heads) (start .pre .1))
 
 -- at the end: the parts' volumes add up to the definition's gross, which is small
 module _ (c : tie.After-heads-volume) where
   abbrev start : tie.Start
-  start = c .before .before .before .before .before .before .before .before .before .before .before .before
+  start = c .before .before .before .before .before .before .before .before .before .before .before .before .before
 
   abbrev of-shell : tie.After-cylinder-volume
   of-shell = c .before .before .before .before .before

@@ -1,0 +1,46 @@
+"""What the tests of the built programs share: a survey's bytes, a run of a program, and the count of the checks."""
+import struct
+import subprocess
+import sys
+from pathlib import Path
+
+ROOT = Path(__file__).resolve().parent.parent
+TABLE = ROOT / "target/bin/tanktable"
+LOOKUP = ROOT / "target/bin/tanklookup"
+SIX_ROWS = (ROOT / "examples/six_rows.survey").read_bytes()
+
+checks = failures = 0
+
+
+def same(what, expected, found):
+    """One check: what is shown, what was expected, what came."""
+    global checks, failures
+    checks += 1
+    if expected != found:
+        failures += 1
+        print(f"FAILED: {what}\n  expected {expected!r}\n  found    {found!r}")
+
+
+def run(program, *words, survey=SIX_ROWS):
+    """What a program writes to standard output and to standard error; its exit status is always 0."""
+    done = subprocess.run([program, *words], input=survey, capture_output=True, timeout=60)
+    same(f"exit status of {program.name} {' '.join(words)}", 0, done.returncode)
+    return done.stdout.decode(), done.stderr.decode()
+
+
+def survey(*, kind=0, dh=50_000, l1=100_000, left=160_221, right=160_221, l2=0, l3=0, step=10_000, courses=None, deadwood=(), places=None):
+    """A survey's bytes, the six rows' where nothing else is said. `places` are the two sections' byte offsets."""
+    courses = [(160_221, 160_221, 100_000, 500)] if courses is None else courses
+    at = places or (48, 48 + 16 * len(courses))
+    head = struct.pack("<12I", kind, dh, l1, left, right, l2, l3, step, len(courses), at[0], len(deadwood), at[1])
+    return head + b"".join(struct.pack("<4I", *c) for c in courses) + b"".join(struct.pack("<2Ii", *d) for d in deadwood)
+
+
+def try_all(what, *parts):
+    """Runs a test's parts, tells the checks of each and of all, and exits with 1 if one failed."""
+    for part in parts:
+        before = checks
+        part()
+        print(f"{part.__name__}: {checks - before} checks")
+    print(f"{checks} checks of {what}, {failures} failed")
+    sys.exit(1 if failures else 0)
