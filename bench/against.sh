@@ -12,8 +12,9 @@ rt staticlib capi 2>&1 | tail -n 1
 source tests/archive_flags.sh
 cargo build --quiet --release --locked --jobs 2 --manifest-path bench/Cargo.toml
 target/cargo/release/bench survey >target/against/largest.survey
-objcopy --redefine-sym milechime_table=other_table --redefine-sym milechime_litres=other_litres \
-    --redefine-sym milechime_height=other_height "$other" target/against/libother.a
+# the other library's functions by other names, whichever it has
+mapfile -t renames < <(nm -g --defined-only "$other" 2>/dev/null | sed -n 's/.* T \(milechime_\(.*\)\)$/--redefine-sym=\1=other_\2/p')
+objcopy "${renames[@]}" "$other" target/against/libother.a
 gcc -std=c11 -D_DEFAULT_SOURCE -O2 -Wall -Wextra -Werror -Iinclude bench/against.c target/staticlib/libcapi.a target/against/libother.a \
     -o target/against/against
 target/against/against target/against/largest.survey

@@ -1,7 +1,7 @@
 -- The slabs of a pair of heads keep within a slack of its volume, whatever their count. Half-ellipsoids: both of the slabs' values of pi lie
 -- below the volume's 355/113, and what a covering slab lacks by that is below half a v at the largest head. Assumes nothing.
 use Prim.Native.Nat.{ℕ, _+_, _*_, _-_, _≤_, _<_}
-use mathlib.Core.Path.{_≡_}
+use mathlib.Core.Path.{_≡_, refl}
 use native.Mathlib.Nat.{le-dest, mul-le-mul-left}
 use native.Mathlib.Omega.{arith}
 use Rattle.laws.specs.NearestLaws.{nearest-above, nearest-below}
@@ -42,6 +42,11 @@ pub caps-tolerance : (d l h : ℕ) → HeadLimits SphericalCap d l
     → headsTolerance SphericalCap d l h + 2 * domeFitting d l h ≡ 2 * domeCovering d l h + 1 * cubicPerV
 unfolding headsTolerance
 caps-tolerance d l h limits = omega (arith, dome-fits-under d l h (cap-limits d l limits) (limits .low))
+
+-- .. and heads of another kind add nothing
+pub others-add-nothing : (d l h : ℕ) → (headsTolerance Flat d l h ≡ 0) × (headsTolerance HalfEllipsoid d l h ≡ 0)
+unfolding headsTolerance
+others-add-nothing d l h = (refl, refl)
 
 -- the row of both domes, of which one has f and c
 abbrev row : (f c : ℕ) → ℕ

@@ -62,6 +62,15 @@ sum-shift (suc n) f =
 pub sum-mono : (m n : ℕ) (f : ℕ → ℕ) → m ≤ n → sum m f ≤ sum n f
 sum-mono m n f l = let (t, p) = le-dest l in rw (← p, sum-split m t f) (omega arith)
 
+-- with nothing from m on it is the first m terms'
+pub sum-stops : (m n : ℕ) (f : ℕ → ℕ) → m ≤ n → ((k : ℕ) → m ≤ k → f k ≡ 0) → sum n f ≡ sum m f
+sum-stops m n f l none =
+    let (t, p) = le-dest l in
+    rw (← p, sum-split m t f) (omega (arith, rest t))
+  where
+    rest : (t : ℕ) → sum t (λ k. f (m + k)) ≤ t * 0
+    rest t = rw (← sum-const) (sum-le t (λ k. f (m + k)) (λ k. 0) (λ k _. omega (arith, none (m + k) (omega arith))))
+
 -- what rises by at least its term in each step rises by at least the sum, and likewise for at most
 pub sum-below : (n : ℕ) (f g : ℕ → ℕ) → ((k : ℕ) → k < n → g k + f k ≤ g (suc k)) → g 0 + sum n f ≤ g n
 unfolding sum

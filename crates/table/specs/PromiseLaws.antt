@@ -1,6 +1,6 @@
 -- What a caller takes from the statement of the call that makes a table, in the paper's own words: of every row that the answer counts, the
--- cell is gross less all shares, the gross row is the cell plus all shares, and condition 3 holds for any slabs of shell and flanges and any
--- cut of the heads. Assumes nothing.
+-- cell is gross less all shares, the gross row is the cell plus all shares, and condition 3 holds for any counts of slabs of shell, flanges
+-- and heads and, for spherical caps, of lengths. Assumes nothing.
 use Prim.Native.Nat.{ℕ, zero, suc, _<_}
 use mathlib.Core.Path.{_≡_}
 use mathlib.Core.List.{List}
@@ -20,20 +20,16 @@ use Rattle.table.specs.declared.make.Made.{Made}
 use Rattle.table.specs.Rows.{netAt}
 use Rattle.table.specs.Condition3.{NetRowAt, Condition3At, EveryRow}
 
--- so many slabs, of a part that is cut into levels alone
-abbrev slabs : ℕ → Cut
-slabs n = record { levels = n; lengths = 1 }
-
 -- a cut for each of the three parts
-abbrev cuts : (n1 n2 : ℕ) → Cut → ℕ → Cut
-cuts n1 n2 heads zero = slabs n1
-cuts n1 n2 heads (suc zero) = slabs n2
-cuts n1 n2 heads (suc (suc k)) = heads
+abbrev cuts : (n1 n2 n3 m : ℕ) → ℕ → Cut
+cuts n1 n2 n3 m zero = record { levels = n1; lengths = 1 }
+cuts n1 n2 n3 m (suc zero) = record { levels = n2; lengths = 1 }
+cuts n1 n2 n3 m (suc (suc k)) = record { levels = n3; lengths = m }
 
-some-slabs : (n1 n2 : ℕ) (heads : Cut) → 0 < n1 → 0 < n2 → Some heads → (part : ℕ) → Some (cuts n1 n2 heads part)
-some-slabs n1 n2 heads p q r zero = (p, omega arith)
-some-slabs n1 n2 heads p q r (suc zero) = (q, omega arith)
-some-slabs n1 n2 heads p q r (suc (suc k)) = r
+some-slabs : (n1 n2 n3 m : ℕ) → 0 < n1 → 0 < n2 → 0 < n3 → 0 < m → (part : ℕ) → Some (cuts n1 n2 n3 m part)
+some-slabs n1 n2 n3 m p q r s zero = (p, omega arith)
+some-slabs n1 n2 n3 m p q r s (suc zero) = (q, omega arith)
+some-slabs n1 n2 n3 m p q r s (suc (suc k)) = (r, s)
 
 module _ (v : Survey) (d1 d2 : Diameter) (rows : ℕ) (left : List ℕ) (i : ℕ) (counted : i < rows) where
   abbrev height : ℕ
@@ -49,6 +45,6 @@ module _ (v : Survey) (d1 d2 : Diameter) (rows : ℕ) (left : List ℕ) (i : ℕ
   gross-taken every = every i counted .restored
 
   pub slabs-taken : EveryRow Condition3At v (Made.Table d1 d2 rows) left
-      → (n1 n2 : ℕ) (heads : Cut) → 0 < n1 → 0 < n2 → Some heads → InWords (v .tank) height (grossAt (v .tank) height) n1 n2 heads
-  slabs-taken every n1 n2 heads p q r =
-      in-words (v .tank) _ _ (cuts n1 n2 heads) (every i counted .slabs (cuts n1 n2 heads) (some-slabs n1 n2 heads p q r))
+      → (n1 n2 n3 m : ℕ) → 0 < n1 → 0 < n2 → 0 < n3 → 0 < m → InWords (v .tank) height (grossAt (v .tank) height) n1 n2 n3 m
+  slabs-taken every n1 n2 n3 m p q r s =
+      in-words (v .tank) _ _ (cuts n1 n2 n3 m) (every i counted .slabs (cuts n1 n2 n3 m) (some-slabs n1 n2 n3 m p q r s))

@@ -80,21 +80,22 @@ pub tolerance-is : (t : Tank) (h : ℕ) → tolerance (filledAt t h) ≡ toleran
 unfolding tolerance film filmOf added toleranceOf filledAt partsOf
 tolerance-is t h = omega arith
 
--- condition 3 of a tank at dip height H and of the gross row g, with N1 slabs of the shell, N2 of the flanges and a cut of the heads
-pub record InWords (t : Tank) (h g n1 n2 : ℕ) (heads : Cut) : Type 0 where
+-- condition 3 of a tank at dip height H and of the gross row g, with N1 slabs of the shell, N2 of the flanges, N3 of the heads and,
+-- where those are spherical caps, M lengths of them
+pub record InWords (t : Tank) (h g n1 n2 n3 m : ℕ) : Type 0 where
   pub fits :
       cylinderFitting (diameterUnits (t .d1)) (t .l1) (shellAt t h) n1
       ⊕ (cylinderFitting (diameterUnits (t .d2)) (2 * t .l2) (headsAt t h) n2
-      ⊕ (headsFitting (t .kind) (diameterUnits (t .d2)) (t .l3) (headsAt t h) heads ⊕ whole 0))
+      ⊕ (headsFitting (t .kind) (diameterUnits (t .d2)) (t .l3) (headsAt t h) (record { levels = n3; lengths = m }) ⊕ whole 0))
       ⊑ whole (g * cubicPerV + toleranceInWords t h)
   pub covers :
       whole (g * cubicPerV)
       ⊑ cylinderCovering (diameterUnits (t .d1)) (t .l1) (shellAt t h) n1
       ⊕ (cylinderCovering (diameterUnits (t .d2)) (2 * t .l2) (headsAt t h) n2
-      ⊕ (headsCovering (t .kind) (diameterUnits (t .d2)) (t .l3) (headsAt t h) heads ⊕ whole 0))
+      ⊕ (headsCovering (t .kind) (diameterUnits (t .d2)) (t .l3) (headsAt t h) (record { levels = n3; lengths = m }) ⊕ whole 0))
       ⊕ whole (toleranceInWords t h)
 
-pub in-words : (t : Tank) (h g : ℕ) (cuts : ℕ → Cut) → Condition3 (filledAt t h) g cuts → InWords t h g (cuts 0 .levels) (cuts 1 .levels) (cuts 2)
+pub in-words : (t : Tank) (h g : ℕ) (cuts : ℕ → Cut) → Condition3 (filledAt t h) g cuts → InWords t h g (cuts 0 .levels) (cuts 1 .levels) (cuts 2 .levels) (cuts 2 .lengths)
 unfolding fittingTotal coveringTotal fittingOf coveringOf filledAt partsOf
 in-words t h g cuts holds =
     record { fits = rw (← tolerance-is t h) (holds .fits); covers = rw (← tolerance-is t h) (holds .covers) }
