@@ -1,4 +1,5 @@
--- The cells of a dome, a spherical cap head (document 02, E2): the level width (Width). The other files are laws.
+-- A dome, a spherical cap head (document 02, E2): its level width (Width), its cells (Cell), their totals (Dome), and the dome as the code walks
+-- it (Walk). The other files are laws.
 pub mod Width
 pub mod WidthLaws
 pub mod Cell

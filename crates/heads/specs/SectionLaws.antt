@@ -11,7 +11,7 @@ use Rattle.laws.specs.SumLaws.{sum-below, sum-above, sum-scale}
 use Rattle.circle.specs.Circle.{chordSquare}
 use Rattle.slabs.specs.Slab.{smallerFace, largerFace}
 use Rattle.slabs.specs.FaceLaws.{smaller-le-lower, smaller-le-upper, larger-face}
-use Rattle.heads.specs.CapLaws.{cap, cap-empty, cap-scale, cap-step, below-middle, above-middle, at-middle}
+use Rattle.heads.specs.PolynomialLaws.{polynomial, polynomial-empty, polynomial-scale, polynomial-step, below-middle, above-middle, at-middle}
 
 abbrev fitting : (d h n i : ℕ) → ℕ
 fitting d h n = smallerFace (chordSquare (n * d)) h
@@ -24,18 +24,18 @@ module _ (d h n : ℕ) (h-high : h ≤ d) where
   above : (i : ℕ) → i < n → (r : ℕ) × (h * (i + 1) + r ≡ n * d)
   above i l = le-dest (rw (mul-comm n d) (mul-le-mul h-high (rw add-one l)))
 
-  fitting-step : (i : ℕ) → i < n → 4 * cap (n * d) (h * i) + 6 * h * fitting d h n i ≤ 4 * cap (n * d) (h * suc i)
+  fitting-step : (i : ℕ) → i < n → 4 * polynomial (n * d) (h * i) + 6 * h * fitting d h n i ≤ 4 * polynomial (n * d) (h * suc i)
   fitting-step i l =
       let (r, top) = above i l in
       let s = chordSquare (n * d) in
       rw (← add-one i) (omega (
         arith,
-        cap-step (n * d) (h * i) (h * (i + 1)) h r (omega arith) top,
+        polynomial-step (n * d) (h * i) (h * (i + 1)) h r (omega arith) top,
         mul-le-mul-left h (smaller-le-lower s h i),
         mul-le-mul-left h (smaller-le-upper s h i),
       ))
 
-  covering-step : (i : ℕ) → i < n → 4 * cap (n * d) (h * suc i) ≤ 4 * cap (n * d) (h * i) + 6 * h * covering d h n i
+  covering-step : (i : ℕ) → i < n → 4 * polynomial (n * d) (h * suc i) ≤ 4 * polynomial (n * d) (h * i) + 6 * h * covering d h n i
   covering-step i l =
       let (r, top) = above i l in
       let m = n * d in
@@ -47,21 +47,21 @@ module _ (d h n : ℕ) (h-high : h ≤ d) where
       (λ low high. at-middle m a b h r up top)
       (λ low. omega (arith, below-middle m a b h r up top low))
       (λ high. omega (arith, above-middle m a b h r up top high)) in
-      rw (← add-one i) (omega (arith, cap-step m a b h r up top, mul-le-mul-left h sections))
+      rw (← add-one i) (omega (arith, polynomial-step m a b h r up top, mul-le-mul-left h sections))
 
-  pub heads-fit : 3 * (h * sum n (fitting d h n)) ≤ 2 * (n * n * n * cap d h)
+  pub heads-fit : 3 * (h * sum n (fitting d h n)) ≤ 2 * (n * n * n * polynomial d h)
   heads-fit =
       omega (
         arith,
-        rw (sum-scale n (6 * h) (fitting d h n), cap-scale n d h) at
-            (sum-below n (λ i. 6 * h * fitting d h n i) (λ i. 4 * cap (n * d) (h * i)) fitting-step),
+        rw (sum-scale n (6 * h) (fitting d h n), polynomial-scale n d h) at
+            (sum-below n (λ i. 6 * h * fitting d h n i) (λ i. 4 * polynomial (n * d) (h * i)) fitting-step),
       )
 
-  pub heads-cover : 2 * (n * n * n * cap d h) ≤ 3 * (h * sum n (covering d h n))
+  pub heads-cover : 2 * (n * n * n * polynomial d h) ≤ 3 * (h * sum n (covering d h n))
   heads-cover =
       omega (
         arith,
-        cap-empty (n * d) h,
-        rw (sum-scale n (6 * h) (covering d h n), cap-scale n d h) at
-            (sum-above n (λ i. 6 * h * covering d h n i) (λ i. 4 * cap (n * d) (h * i)) covering-step),
+        polynomial-empty (n * d) h,
+        rw (sum-scale n (6 * h) (covering d h n), polynomial-scale n d h) at
+            (sum-above n (λ i. 6 * h * covering d h n i) (λ i. 4 * polynomial (n * d) (h * i)) covering-step),
       )

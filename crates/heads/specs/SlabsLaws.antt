@@ -18,8 +18,8 @@ use Rattle.heads.specs.declared.kind.HeadKind.{HeadKind}
 use Rattle.heads.specs.declared.kind.HeadKind.the-variants.{Flat, HalfEllipsoid, SphericalCap}
 use Rattle.heads.specs.LengthLaws.{HeadLimits, cap-limits}
 use Rattle.heads.specs.Volume.{headsVolume}
-use Rattle.heads.specs.CapLaws.{cap}
-use Rattle.heads.specs.VolumeLaws.{volume-by-cap, cap-limit}
+use Rattle.heads.specs.PolynomialLaws.{polynomial}
+use Rattle.heads.specs.VolumeLaws.{volume-by-polynomial, polynomial-limit}
 use Rattle.heads.specs.Slabs.{slabsOf, bothDomes, headsFitting, headsCovering, headsTolerance}
 use Rattle.heads.specs.SectionLaws.{heads-fit, heads-cover}
 
@@ -70,21 +70,21 @@ pub heads-within : (kind : HeadKind) (d l h : ℕ) (cut : Cut) → Some cut → 
     → Within (headsFitting kind d l h cut) (headsCovering kind d l h cut) (headsVolume kind d l h * cubicPerV) (headsSlack kind d l h)
 unfolding headsFitting headsCovering slabsOf headsVolume headsSlack
 heads-within Flat d l h cut some d-low d-high limits h-high = record { fits = omega arith; covers = omega arith }
-heads-within HalfEllipsoid d l h cut some d-low d-high limits h-high = rw (volume-by-cap d l h) (
+heads-within HalfEllipsoid d l h cut some d-low d-high limits h-high = rw (volume-by-polynomial d l h) (
     let n = cut .levels in
     record {
       fits =
           omega (
             arith,
             mul-le-mul-left l (heads-fit d h n h-high),
-            mul-le-mul-left (n * n * n) (nearest-below (piOver * l * cap d h) (piUnder * (3 * d) * cubicPerV) (omega arith)),
+            mul-le-mul-left (n * n * n) (nearest-below (piOver * l * polynomial d h) (piUnder * (3 * d) * cubicPerV) (omega arith)),
           );
       covers =
           omega (
             arith,
             mul-le-mul-left l (heads-cover d h n h-high),
-            mul-le-mul-left (n * n * n) (cap-limit d l h h-high d-high (limits .high)),
-            mul-le-mul-left (n * n * n) (nearest-above (piOver * l * cap d h) (piUnder * (3 * d) * cubicPerV)),
+            mul-le-mul-left (n * n * n) (polynomial-limit d l h h-high d-high (limits .high)),
+            mul-le-mul-left (n * n * n) (nearest-above (piOver * l * polynomial d h) (piUnder * (3 * d) * cubicPerV)),
           );
     })
 heads-within SphericalCap d l h cut some d-low d-high limits h-high =

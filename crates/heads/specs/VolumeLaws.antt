@@ -1,5 +1,5 @@
--- The volume of heads by its polynomial: it never falls as the height grows, that of full heads is document 000's formula 30, and what
--- no heads within the limits exceed. Assumes nothing.
+-- The volume of heads: it never falls as the height grows, that of full half-ellipsoids is document 000's formula 30, and what no heads within
+-- the limits exceed. That of half-ellipsoids goes by its polynomial. Assumes nothing.
 use Prim.Native.Nat.{ℕ, _+_, _*_, _-_, _≤_, _<_}
 use mathlib.Core.Path.{_≡_, ap}
 use native.Mathlib.Nat.{le-refl, le-trans, add-le-add, mul-le-mul, mul-le-mul-left, mul-assoc}
@@ -17,20 +17,20 @@ use Rattle.heads.specs.declared.kind.HeadKind.the-variants.{Flat, HalfEl
 use Rattle.heads.specs.Length.{longest}
 use Rattle.heads.specs.LengthLaws.{HeadLimits, cap-limits}
 use Rattle.heads.specs.Volume.{headsVolume}
-use Rattle.heads.specs.CapLaws.{cap, cap-at-most, cap-mono}
+use Rattle.heads.specs.PolynomialLaws.{polynomial, polynomial-at-most, polynomial-mono}
 
-pub volume-by-cap : (d l h : ℕ)
-    → headsVolume HalfEllipsoid d l h ≡ nearest (piOver * l * cap d h) (piUnder * (3 * d) * cubicPerV)
-unfolding headsVolume cap
-volume-by-cap d l h =
+pub volume-by-polynomial : (d l h : ℕ)
+    → headsVolume HalfEllipsoid d l h ≡ nearest (piOver * l * polynomial d h) (piUnder * (3 * d) * cubicPerV)
+unfolding headsVolume polynomial
+volume-by-polynomial d l h =
     ap (λ (n : ℕ). nearest n (piUnder * (3 * d) * cubicPerV)) (mul-assoc (piOver * l) (h * h) (3 * d - 2 * h))
 
 pub heads-mono : (kind : HeadKind) (d l h h′ : ℕ) → 0 < d → h ≤ h′ → h′ ≤ d → headsVolume kind d l h ≤ headsVolume kind d l h′
 unfolding headsVolume
 heads-mono Flat d l h h′ d-low up h-high = le-refl 0
 heads-mono HalfEllipsoid d l h h′ d-low up h-high =
-    rw (volume-by-cap d l h, volume-by-cap d l h′)
-    (nearest-mono _ _ (piUnder * (3 * d) * cubicPerV) (omega arith) (mul-le-mul-left (piOver * l) (cap-mono d h h′ up h-high)))
+    rw (volume-by-polynomial d l h, volume-by-polynomial d l h′)
+    (nearest-mono _ _ (piUnder * (3 * d) * cubicPerV) (omega arith) (mul-le-mul-left (piOver * l) (polynomial-mono d h h′ up h-high)))
 heads-mono SphericalCap d l h h′ d-low up h-high =
     nearest-mono _ _ (2 * cubicPerV) (omega arith)
     (add-le-add (mul-le-mul-left 2 (fitting-mono d l h h′ up)) (mul-le-mul-left 2 (covering-mono d l h h′ up)))
@@ -45,9 +45,9 @@ full-heads d l some =
     rw (left, over, under) (nearest-cancel d (piOver * l * (d * d)) (piUnder * 3 * cubicPerV) some (omega arith))
 
 -- the polynomial of the largest heads
-pub cap-limit : (d l h : ℕ) → h ≤ d → d ≤ largest → l ≤ longest → l * cap d h ≤ longest * (largest * largest * d)
-cap-limit d l h h-high d-high l-high =
-    mul-le-mul l-high (le-trans (cap-at-most d h h-high) (mul-le-mul (mul-le-mul d-high d-high) (le-refl d)))
+pub polynomial-limit : (d l h : ℕ) → h ≤ d → d ≤ largest → l ≤ longest → l * polynomial d h ≤ longest * (largest * largest * d)
+polynomial-limit d l h h-high d-high l-high =
+    mul-le-mul l-high (le-trans (polynomial-at-most d h h-high) (mul-le-mul (mul-le-mul d-high d-high) (le-refl d)))
 
 -- in v; the largest heads hold less
 abbrev pub mostHeads : ℕ
@@ -55,9 +55,9 @@ mostHeads = 13000000
 
 pub half-ellipsoids-at-most : (d l h : ℕ) → h ≤ d → 0 < d → d ≤ largest → l ≤ longest → headsVolume HalfEllipsoid d l h ≤ mostHeads
 half-ellipsoids-at-most d l h h-high d-low d-high l-high =
-    rw (volume-by-cap d l h)
+    rw (volume-by-polynomial d l h)
     (nearest-at-most _ mostHeads (piUnder * (3 * d) * cubicPerV) (omega arith)
-    (omega (arith, cap-limit d l h h-high d-high l-high)))
+    (omega (arith, polynomial-limit d l h h-high d-high l-high)))
 
 -- of one dome
 pub dome-small : (d l h : ℕ) → h ≤ d → d ≤ largest → HeadLimits SphericalCap d l → domeFitting d l h + domeCovering d l h ≤ mostHeads * cubicPerV

@@ -8,25 +8,25 @@ use native.Mathlib.Omega.{arith}
 use Rattle.circle.specs.Circle.{chordSquare}
 use Rattle.circle.specs.ChordLaws.{four-products}
 
-unfoldable pub cap : ℕ → ℕ → ℕ
-cap m x = x * x * (3 * m - 2 * x)
+unfoldable pub polynomial : ℕ → ℕ → ℕ
+polynomial m x = x * x * (3 * m - 2 * x)
 
-pub cap-empty : (m h : ℕ) → cap m (h * 0) ≡ 0
-unfolding cap
-cap-empty m h = rw (mul-zero h) (zero-mul (3 * m - 0))
+pub polynomial-empty : (m h : ℕ) → polynomial m (h * 0) ≡ 0
+unfolding polynomial
+polynomial-empty m h = rw (mul-zero h) (zero-mul (3 * m - 0))
 
-pub cap-scale : (n d h : ℕ) → cap (n * d) (h * n) ≡ n * n * n * cap d h
-unfolding cap
-cap-scale n d h =
+pub polynomial-scale : (n d h : ℕ) → polynomial (n * d) (h * n) ≡ n * n * n * polynomial d h
+unfolding polynomial
+polynomial-scale n d h =
     let factor : 3 * (n * d) - 2 * (h * n) ≡ n * (3 * d) - n * (2 * h) = omega arith in
     rw (factor, ← mul-sub) (scale (3 * d - 2 * h))
   where
     scale : (u : ℕ) → h * n * (h * n) * (n * u) ≡ n * n * n * (h * h * u)
     scale u = omega arith
 
-pub cap-at-most : (d h : ℕ) → h ≤ d → cap d h ≤ d * d * d
-unfolding cap
-cap-at-most d h l = go (le-dest l)
+pub polynomial-at-most : (d h : ℕ) → h ≤ d → polynomial d h ≤ d * d * d
+unfolding polynomial
+polynomial-at-most d h l = go (le-dest l)
   where
     go : (t : ℕ) × (h + t ≡ d) → h * h * (3 * d - 2 * h) ≤ d * d * d
     go (t, p) =
@@ -43,9 +43,9 @@ module _ (m a b t r : ℕ) (up : a + t ≡ b) (top : b + r ≡ m) where
   unfolding chordSquare
   upper = let rest : m - b ≡ r = omega arith in rw (rest, up) refl
 
-  pub cap-step : 4 * cap m b ≡ 4 * cap m a + t * (3 * chordSquare m a + 3 * chordSquare m b + 4 * (t * t))
-  unfolding cap
-  cap-step =
+  pub polynomial-step : 4 * polynomial m b ≡ 4 * polynomial m a + t * (3 * chordSquare m a + 3 * chordSquare m b + 4 * (t * t))
+  unfolding polynomial
+  polynomial-step =
       let factor-a : 3 * m - 2 * a ≡ a + 3 * t + 3 * r = omega arith in
       let factor-b : 3 * m - 2 * b ≡ a + t + 3 * r = omega arith in
       rw (lower, upper, factor-a, factor-b, ← up) (omega arith)
@@ -66,8 +66,8 @@ module _ (m a b t r : ℕ) (up : a + t ≡ b) (top : b + r ≡ m) where
   pub at-middle : 3 * chordSquare m a + 3 * chordSquare m b + 4 * (t * t) ≤ 6 * (m * m)
   at-middle = rw (lower, upper, ← top, ← up) (omega (arith, four-products a r))
 
-pub cap-mono : (m a b : ℕ) → a ≤ b → b ≤ m → cap m a ≤ cap m b
-cap-mono m a b l top =
+pub polynomial-mono : (m a b : ℕ) → a ≤ b → b ≤ m → polynomial m a ≤ polynomial m b
+polynomial-mono m a b l top =
     let (t, up) = le-dest l in
     let (r, rest) = le-dest top in
-    omega (arith, cap-step m a b t r up rest)
+    omega (arith, polynomial-step m a b t r up rest)
