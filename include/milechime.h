@@ -1,7 +1,8 @@
 /*
  * Milechime: the capacity table of a level, round tank from its survey, both
  * readings of such a table (the volume at a dip height, and the lowest dip
- * height for a volume), and what a refusal is about, in words.
+ * height for a volume), old surveys in today's format, and what a refusal is
+ * about, in words.
  *
  * Units. Lengths are whole numbers of u = 0.01 mm, volumes whole numbers of
  * v = 0.01 L: a dip height of 5000 is 50.00 mm, a volume of 1398 is 13.98 L.
@@ -33,6 +34,7 @@ extern "C" {
 #define MILECHIME_LARGEST_SURVEY 65536
 #define MILECHIME_MOST_ROWS 5001
 #define MILECHIME_MOST_WORDS 256
+#define MILECHIME_MOST_CONVERTED 1944
 
 /*
  * Refusals. The first number of every answer is 0, or that of the first
@@ -40,14 +42,16 @@ extern "C" {
  * number of the answer is 0, and lent memory is untouched.
  *
  *  no.  given when                                               place
- *   1   the survey has under 48 or over 65,536 bytes             0
- *   2   the course count is not 1 to 40, or the deadwood
- *       count not 0 to 64                                        0
- *   3   courses or deadwood start before byte 48, end outside
- *       the survey, or overlap                                   0
+ *   1   the survey has under 56 or over 65,536 bytes             0
+ *   2   the course count is not 1 to 40, the deadwood count
+ *       not 0 to 64, or the seam count not the course count      0
+ *   3   courses, deadwood or seams start before byte 56, end
+ *       outside the survey, or overlap                           0
  *   4   the head kind is not 0 (flat), 1 (half-ellipsoid) or
  *       2 (spherical cap)                                        0
- *   5   another number of the survey is outside its limits       its byte offset
+ *   5   another number of the survey is outside its limits, or
+ *       a course's reading is, less the tape rise over its
+ *       seams                                                    its byte offset
  *   6   the sum of the course lengths and the shell length L1
  *       differ, either way, by more than 100 for each course     0
  *   7   a diameter, D1 or D2, is outside 50,000 to 500,000 or
@@ -63,6 +67,9 @@ extern "C" {
  *       a row is below the row before                            0
  *  12   lookup: the height is above DH                           0
  *  13   lookup: the volume is above the last row                 0
+ *
+ * An old survey has a header of 48 bytes and no seams: there 48 stands for 56
+ * in 1 and 3, and nothing is said of seams.
  */
 
 /* The answer to milechime_table. */
@@ -128,7 +135,35 @@ struct milechime_height_answer milechime_height(
     const uint32_t *table, size_t table_length,
     uint32_t volume);
 
-/* The answer to milechime_words. */
+/* The answer to milechime_convert_48. */
+struct milechime_convert_answer {
+    uint32_t refusal; /* 0, 1 to 7, 9 or 14; never 8 */
+    uint32_t place;   /* of the refusal, in the old survey */
+    uint32_t length;  /* bytes of the file */
+    uint8_t file[MILECHIME_MOST_CONVERTED]; /* and 0 behind it; all 0 in a refusal */
+};
+
+/*
+ * Writes an old survey, one with a header of 48 bytes, in today's format: the
+ * header, the courses, the deadwood and the seams end to end, with a record of
+ * seams for each course, all 0. The offset of an empty section is 0, and bytes
+ * that no section of the old survey has are dropped. The first `length` bytes
+ * of the answer's file are the new survey.
+ *
+ * The old survey is judged under its own format by all the rules that hold
+ * today, those of its rows too, with room for every row: it is refused with 9
+ * if its table would be, and never with 8. What is converted is accepted, and
+ * milechime_table makes of it the table, D1 and D2 that the old survey has by
+ * these rules.
+ *
+ * Convert old surveys only, and each of them once. Nothing in a survey tells
+ * its format: one in today's format would as a rule pass for an old one and
+ * lose its seams, and its table would be another.
+ */
+struct milechime_convert_answer milechime_convert_48(
+    const uint8_t *survey, size_t survey_length);
+
+/* The answer to milechime_words and to milechime_words_48. */
 struct milechime_words_answer {
     uint32_t length;                 /* bytes of the text, below MILECHIME_MOST_WORDS */
     char text[MILECHIME_MOST_WORDS]; /* ASCII, and 0 behind it */
@@ -143,6 +178,14 @@ struct milechime_words_answer {
  * too, which then say nothing of use.
  */
 struct milechime_words_answer milechime_words(
+    const uint8_t *survey, size_t survey_length,
+    uint32_t refusal, uint32_t place);
+
+/*
+ * The same of a refusal by milechime_convert_48, in the old survey: its words
+ * come from here, since milechime_words reads a survey in today's format.
+ */
+struct milechime_words_answer milechime_words_48(
     const uint8_t *survey, size_t survey_length,
     uint32_t refusal, uint32_t place);
 

@@ -135,7 +135,8 @@ def built_code():
     for name in apart:
         same(f"instructions of {name}", set(), multiplying(functions[name]))
         print(f"instructions read: {len(functions[name])} of {name}")
-    same("found in the function that makes the table", {"div", "imul"}, multiplying(functions["milechime_table"]) & {"div", "imul"})
+    others = [step for name, listed in functions.items() if name not in apart for step in listed]
+    same("found in the library's other functions", {"div", "imul"}, multiplying(others) & {"div", "imul"})
 
 
 done = subprocess.run(["rt", "staticlib", "capi"], cwd=ROOT, capture_output=True, text=True)

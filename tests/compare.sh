@@ -26,7 +26,7 @@ quietly() {
 mkdir -p target/c
 
 step "the programs and libcapi.a"
-quietly rt check tanktable tanklookup
+quietly rt check tanktable tanklookup tankconvert
 quietly rt staticlib capi
 archive=target/staticlib/libcapi.a
 
@@ -54,6 +54,6 @@ grep '^test result' target/compare.log | grep -v ' 0 passed'
 step "the comparison"
 quietly cargo build --release --locked --jobs 2 --manifest-path reference/compare/Cargo.toml
 rm -rf target/mismatches
-target/cargo/release/compare target/bin/tanktable target/bin/tanklookup target/mismatches
+target/cargo/release/compare target/bin/tanktable target/bin/tanklookup target/bin/tankconvert target/mismatches
 
 step "done"

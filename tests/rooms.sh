@@ -1,6 +1,6 @@
 #!/usr/bin/env bash
 # The rooms are as docs/ARCHITECTURE.md draws them: its 'knows' column is that of crates.txt, and above `survey` nobody cites what reads
-# bytes. Says what it looked at; a sample that breaks each rule is seen to be found.
+# bytes but `rewrite`, which writes a file. Says what it looked at; a sample that breaks each rule is seen to be found.
 . "$(dirname "$0")/failures.sh"
 
 # The rooms that a line of crates.txt, or a row of the table, names. The kit's crates are left out.
@@ -16,15 +16,15 @@ differing() {
     done
 }
 
-# what reads bytes, cited by another crate than survey
-bytes_seen() { grep -rnE 'Rattle\.survey\.specs\.(Word|Layout|Limits|Section|Item|Tests|Judged|SectionLaws|JudgedLaws|CourseLaws)\b' "$@"; }
+# what reads bytes, cited by another crate than survey and rewrite
+bytes_seen() { grep -rnE --exclude-dir=rewrite 'Rattle\.survey\.specs\.(Word|Layout|Limits|Section|Item|Reading|Tests|Judged|SectionLaws|JudgedLaws|CourseLaws|FitLaws)\b' "$@"; }
 
 rooms=$(grep -c '^[a-z_]*:' crates.txt)
 files=$(find crates -name '*.rt' -o -name '*.antt' | wc -l)
 found=$(differing docs/ARCHITECTURE.md)
 [ -z "$found" ] || fail "docs/ARCHITECTURE.md and crates.txt differ in: $found"
 found=$(bytes_seen crates)
-[ -z "$found" ] || fail "bytes seen above survey: $found"
+[ -z "$found" ] || fail "bytes seen above survey and rewrite: $found"
 
 # the rules can be broken
 sample=$(mktemp -d)

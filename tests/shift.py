@@ -1,6 +1,7 @@
 #!/usr/bin/env python3
 """Tries the programs as a shift meets them, and as somebody who wishes them ill: slow, full and closed outputs, unreadable inputs, wrong
-words, each refusal in words, several figures in a call. Runs target/bin/tanktable and target/bin/tanklookup; says what was tried.
+words, each refusal in words, several figures in a call. Runs target/bin/tanktable and target/bin/tanklookup, and target/bin/tankconvert where its
+streams are concerned (the rest is in tests/convert.py); says what was tried.
 """
 import os
 import signal
@@ -9,7 +10,7 @@ import tempfile
 import threading
 import time
 
-from surveys import LOOKUP, ROOT, SIX_ROWS, TABLE, run, same, survey, try_all
+from surveys import CONVERT, LOOKUP, ROOT, SIX_ROWS, TABLE, run, same, survey, try_all
 
 
 def with_lengths(lengths):
@@ -50,7 +51,7 @@ def outputs():
 
     with tempfile.TemporaryFile() as file:
         file.write(largest())
-        for program, words in ((TABLE, []), (LOOKUP, ["litres", "50"])):
+        for program, words in ((TABLE, []), (LOOKUP, ["litres", "50"]), (CONVERT, ["48"])):
             def said_of(**streams):
                 file.seek(0)
                 done = subprocess.run([program, *words], stdin=file, stderr=subprocess.PIPE, timeout=60, **streams)
@@ -72,7 +73,7 @@ def inputs():
     named = str(ROOT / "examples/six_rows.survey")
     same("tanktable -f FILE", (table, ""), run(TABLE, "-f", named, survey=b""))
     same("tanklookup -f FILE litres", ("13.98\n", ""), run(LOOKUP, "-f", named, "litres", "50", survey=b""))
-    for program, words in ((TABLE, []), (LOOKUP, ["litres", "50"])):
+    for program, words in ((TABLE, []), (LOOKUP, ["litres", "50"]), (CONVERT, ["48"])):
         name = program.name
         same(f"{name} -f of no file", ("", "nowhere.survey: No such file or directory\n"), run(program, "-f", "nowhere.survey", *words))
         same(f"{name} -f of a directory", ("", "/: Is a directory\n"), run(program, "-f", "/", *words))
@@ -144,21 +145,40 @@ def figures():
 def refusals():
     """Each refusal in words: standard output as document 01 has it, and one more line on standard error."""
     low = (149_999, 160_221, 100_000, 500)
+    rising = (150_129, 160_221, 100_000, 500)
     four = [(160_221, 160_221, 25_000, 500)] * 4
     six = dict(kind=1, dh=260_000, l1=100_000, left=823_097, right=823_097, l3=65_000, courses=[(823_097, 823_097, 25_000, 1_000)] * 4)
     for data, number, place, sentence in [
-        (b"", 1, 0, "file of 0 bytes: must have 48 to 65536"),
-        (SIX_ROWS[:47], 1, 0, "file of 47 bytes: must have 48 to 65536"),
-        (SIX_ROWS + bytes(65_536), 1, 0, "file of more than 65536 bytes: must have 48 to 65536"),
+        (b"", 1, 0, "file of 0 bytes: must have 56 to 65536"),
+        (SIX_ROWS[:55], 1, 0, "file of 55 bytes: must have 56 to 65536"),
+        (SIX_ROWS + bytes(65_536), 1, 0, "file of more than 65536 bytes: must have 56 to 65536"),
         (survey(courses=[]), 2, 0, "course count 0: must be 1 to 40"),
         (survey(courses=[low] * 41), 2, 0, "course count 41: must be 1 to 40"),
         (survey(deadwood=[(0, 1, 1)] * 65), 2, 0, "deadwood count 65: must be 0 to 64"),
-        (survey(places=(47, 0)), 3, 0, "byte offset of the courses 47: its 1 records must start at byte 48 or later and end inside the file of 64 bytes"),
-        (survey(places=(4_294_967_295, 0)), 3, 0,
-         "byte offset of the courses 4294967295: its 1 records must start at byte 48 or later and end inside the file of 64 bytes"),
-        (survey(places=(48, 65), deadwood=[(0, 1, 1)]), 3, 0,
-         "byte offset of the deadwood 65: its 1 records must start at byte 48 or later and end inside the file of 76 bytes"),
-        (survey(places=(48, 60), deadwood=[(0, 1, 1)]), 3, 0, "byte offset of the deadwood 60: its 1 records must not overlap the courses"),
+        (survey(deadwood=[(0, 1, 1)] * 65, seams=[]), 2, 0, "deadwood count 65: must be 0 to 64"),
+        (survey(seams=[]), 2, 0, "seam count 0: must be 1, the course count"),
+        (survey(seams=[(0, 0, 0)] * 2), 2, 0, "seam count 2: must be 1, the course count"),
+        (survey(courses=four, seams=[(0, 0, 0)] * 3), 2, 0, "seam count 3: must be 4, the course count"),
+        ((ROOT / "examples/old/six_rows.survey").read_bytes(), 2, 0, "seam count 160221: must be 1, the course count"),
+        (survey(places=(55, 0, 72)), 3, 0,
+         "byte offset of the courses 55: its 1 records must start at byte 56 or later and end inside the file of 84 bytes"),
+        (survey(places=(4_294_967_295, 0, 72)), 3, 0,
+         "byte offset of the courses 4294967295: its 1 records must start at byte 56 or later and end inside the file of 84 bytes"),
+        (survey(places=(56, 85, 84), deadwood=[(0, 1, 1)]), 3, 0,
+         "byte offset of the deadwood 85: its 1 records must start at byte 56 or later and end inside the file of 96 bytes"),
+        (survey(places=(56, 68, 84), deadwood=[(0, 1, 1)]), 3, 0, "byte offset of the deadwood 68: its 1 records must not overlap the courses"),
+        (survey(places=(56, 68, 60), deadwood=[(0, 1, 1)]), 3, 0, "byte offset of the deadwood 68: its 1 records must not overlap the courses"),
+        (survey(places=(56, 0, 71)), 3, 0, "byte offset of the seams 71: its 1 records must not overlap the courses"),
+        (survey(places=(56, 200, 60), deadwood=[(0, 1, 1)]), 3, 0, "byte offset of the seams 60: its 1 records must not overlap the courses"),
+        (survey(places=(56, 200, 200), deadwood=[(0, 1, 1)]), 3, 0,
+         "byte offset of the deadwood 200: its 1 records must start at byte 56 or later and end inside the file of 96 bytes"),
+        (survey(places=(56, 72, 83), deadwood=[(0, 1, 1)]), 3, 0, "byte offset of the seams 83: its 1 records must not overlap the deadwood"),
+        (survey(places=(68, 0, 55)), 3, 0,
+         "byte offset of the seams 55: its 1 records must start at byte 56 or later and end inside the file of 84 bytes"),
+        (survey(places=(56, 0, 73)), 3, 0,
+         "byte offset of the seams 73: its 1 records must start at byte 56 or later and end inside the file of 84 bytes"),
+        (survey(places=(56, 0, 4_294_967_295)), 3, 0,
+         "byte offset of the seams 4294967295: its 1 records must start at byte 56 or later and end inside the file of 84 bytes"),
         (survey(kind=3), 4, 0, "head kind 3: must be 0 (flat), 1 (half-ellipsoid) or 2 (spherical cap)"),
         (survey(kind=4_294_967_295), 4, 0, "head kind 4294967295: must be 0 (flat), 1 (half-ellipsoid) or 2 (spherical cap)"),
         (survey(dh=49_999), 5, 4, "dip diameter DH 49999 (499.99 mm): must be 50000 to 500000"),
@@ -171,17 +191,36 @@ def refusals():
         (survey(kind=2), 5, 24, "head length L3 0 (0.00 mm): must be 1 to 260000 for this kind of head"),
         (survey(kind=2, l3=260_001), 5, 24, "head length L3 260001 (2,600.01 mm): must be 1 to 260000 for this kind of head"),
         (survey(step=4_294_967_295), 5, 28, "step 4294967295 (42,949,672.95 mm): must be 100 to 10000"),
-        (survey(courses=[low]), 5, 48, "course 1, first circumference 149999 (1,499.99 mm): must be 150000 to 1600000"),
-        (survey(courses=four[:3] + [(160_221, 1, 25_000, 500)]), 5, 100, "course 4, second circumference 1 (0.01 mm): must be 150000 to 1600000"),
-        (survey(courses=four[:1] + [(160_221, 160_221, 0, 500)]), 5, 72, "course 2, length 0 (0.00 mm): must be 1 to 3000000"),
-        (survey(courses=four[:2] + [(160_221, 160_221, 25_000, 5_001)]), 5, 92, "course 3, thickness 5001 (50.01 mm): must be 100 to 5000"),
-        (survey(**six, deadwood=[(0, 1, 1), (0, 270_000, 1)]), 5, 128,
+        (survey(courses=[low]), 5, 56, "course 1, first circumference 149999 (1,499.99 mm): must be 150000 to 1600000"),
+        (survey(courses=four[:3] + [(160_221, 1, 25_000, 500)]), 5, 108, "course 4, second circumference 1 (0.01 mm): must be 150000 to 1600000"),
+        (survey(courses=four[:1] + [(160_221, 160_221, 0, 500)]), 5, 80, "course 2, length 0 (0.00 mm): must be 1 to 3000000"),
+        (survey(courses=four[:2] + [(160_221, 160_221, 25_000, 5_001)]), 5, 100, "course 3, thickness 5001 (50.01 mm): must be 100 to 5000"),
+        (survey(**six, deadwood=[(0, 1, 1), (0, 270_000, 1)]), 5, 136,
          "deadwood item 2, high height 270000 (2,700.00 mm): must be above its low height and at most DH 260000"),
-        (survey(deadwood=[(5, 5, 1)]), 5, 68, "deadwood item 1, high height 5 (0.05 mm): must be above its low height and at most DH 50000"),
-        (survey(deadwood=[(0, 1, 1)] * 2 + [(0, 1, -10_000_001)]), 5, 96,
+        (survey(deadwood=[(5, 5, 1)]), 5, 76, "deadwood item 1, high height 5 (0.05 mm): must be above its low height and at most DH 50000"),
+        (survey(deadwood=[(0, 1, 1)] * 2 + [(0, 1, -10_000_001)]), 5, 104,
          "deadwood item 3, volume -10000001 (-100,000.01 L): must be -10000000 to 10000000"),
-        (survey(deadwood=[(0, 1, 2_147_483_647)]), 5, 72, "deadwood item 1, volume 2147483647 (21,474,836.47 L): must be -10000000 to 10000000"),
-        (survey(deadwood=[(0, 1, -2_147_483_648)]), 5, 72, "deadwood item 1, volume -2147483648 (-21,474,836.48 L): must be -10000000 to 10000000"),
+        (survey(deadwood=[(0, 1, 2_147_483_647)]), 5, 80, "deadwood item 1, volume 2147483647 (21,474,836.47 L): must be -10000000 to 10000000"),
+        (survey(deadwood=[(0, 1, -2_147_483_648)]), 5, 80, "deadwood item 1, volume -2147483648 (-21,474,836.48 L): must be -10000000 to 10000000"),
+        (survey(seams=[(13, 0, 0)]), 5, 72, "seams of course 1, number 13: must be 0 to 12"),
+        (survey(seams=[(4_294_967_295, 1_001, 5_001)]), 5, 72, "seams of course 1, number 4294967295: must be 0 to 12"),
+        (survey(seams=[(12, 1_001, 5_001)]), 5, 76, "seams of course 1, thickness 1001 (10.01 mm): must be 0 to 1000"),
+        (survey(seams=[(0, 0, 5_001)]), 5, 80, "seams of course 1, width 5001 (50.01 mm): must be 0 to 5000"),
+        (survey(courses=four, seams=[(0, 0, 0)] * 3 + [(13, 0, 0)]), 5, 156, "seams of course 4, number 13: must be 0 to 12"),
+        (survey(courses=four, deadwood=[(0, 1, 1)], seams=[(0, 0, 0), (0, 4_294_967_295, 0)] * 2), 5, 148,
+         "seams of course 2, thickness 4294967295 (42,949,672.95 mm): must be 0 to 1000"),
+        # the tape rises by 29 + 101 over three seams: the nearest of 2·3·200·1,200/50,000 = 28.8, and the root of 64·9·200³/(9·50,000) = 10,240
+        (survey(courses=[rising], seams=[(3, 200, 1_200)]), 5, 56,
+         "course 1, first circumference less the tape rise over its seams 149999 (1,499.99 mm): must be 150000 to 1600000"),
+        (survey(courses=[(160_221, 150_129, 100_000, 500)], seams=[(3, 200, 1_200)]), 5, 60,
+         "course 1, second circumference less the tape rise over its seams 149999 (1,499.99 mm): must be 150000 to 1600000"),
+        # and by 2,400 + 4,525 over the most and largest: the root is that of 64·144·1,000³/(9·50,000) = 20,480,000
+        (survey(courses=four[:3] + [(150_000, 150_000, 25_000, 500)], seams=[(0, 0, 0)] * 3 + [(12, 1_000, 5_000)]), 5, 104,
+         "course 4, first circumference less the tape rise over its seams 143075 (1,430.75 mm): must be 150000 to 1600000"),
+        # 5 looks at the readings as they stand, then at the seams, and last at the corrected readings
+        (survey(courses=[rising, low], seams=[(3, 200, 1_200)] * 2), 5, 72,
+         "course 2, first circumference 149999 (1,499.99 mm): must be 150000 to 1600000"),
+        (survey(courses=[rising] * 2, seams=[(3, 200, 1_200), (0, 0, 5_001)]), 5, 108, "seams of course 2, width 5001 (50.01 mm): must be 0 to 5000"),
         (survey(courses=four[:3]), 6, 0,
          "sum of the course lengths 75000 (750.00 mm): must be 99700 to 100300, the shell length L1 give or take 100 for each course"),
         (with_lengths([99_899]), 6, 0,
@@ -194,6 +233,8 @@ def refusals():
          "sum of the course lengths 100000 (1,000.00 mm): must be 2999900 to 3000100, the shell length L1 give or take 100 for each course"),
         (survey(courses=[(200_000, 200_000, 100_000, 500)]), 7, 0,
          "shell diameter D1 62662 (626.62 mm): must be 50000 to 500000 and at most 10000 from DH 50000"),
+        (survey(courses=[(150_130, 150_130, 100_000, 500)], seams=[(3, 200, 1_200)]), 7, 0,
+         "shell diameter D1 46746 (467.46 mm): must be 50000 to 500000 and at most 10000 from DH 50000"),
         (survey(left=157_000, right=157_000), 7, 0, "head diameter D2 48975 (489.75 mm): must be 50000 to 500000 and at most 10000 from DH 50000"),
         (survey(kind=2, l3=25_001, l1=3_000_000), 6, 0,
          "sum of the course lengths 100000 (1,000.00 mm): must be 2999900 to 3000100, the shell length L1 give or take 100 for each course"),

@@ -16,7 +16,7 @@ from pathlib import Path
 ROOT = Path(__file__).resolve().parent.parent
 TOOL = ROOT / "tools" / "survey.py"
 EXAMPLES = ROOT / "examples"
-CUT = "cut_short"  # the first 47 bytes of six_rows: no TOML can say it
+CUT = "cut_short"  # the first 55 bytes of six_rows: no TOML can say it
 passed = failed = 0
 
 
@@ -48,7 +48,7 @@ def disagreements(folder: Path) -> list[str]:
     for survey in sorted(folder.glob("*.survey")):
         data, toml = survey.read_bytes(), survey.with_suffix(".toml")
         if survey.stem == CUT:
-            if data != (folder / "six_rows.survey").read_bytes()[:47]:
+            if data != (folder / "six_rows.survey").read_bytes()[:55]:
                 found.append(f"{survey.name} is not the cut of six_rows.survey")
             continue
         if not toml.exists():
@@ -78,7 +78,7 @@ def examples(folder: Path) -> None:
             shutil.copy(file, to)
         return to
 
-    check("eight surveys and seven TOML files", (8, 7), (len(list(EXAMPLES.glob("*.survey"))), len(list(EXAMPLES.glob("*.toml")))))
+    check("ten surveys and nine TOML files", (10, 9), (len(list(EXAMPLES.glob("*.survey"))), len(list(EXAMPLES.glob("*.toml")))))
     check("the examples agree both ways", [], disagreements(copy("as they are")))
     changed = copy("a byte changed")
     data = bytearray((changed / "falling_row.survey").read_bytes())
@@ -94,7 +94,7 @@ def examples(folder: Path) -> None:
     changed = copy("files taken away")
     (changed / "six_rows.toml").unlink()
     (changed / "fifty_cubic_metres.survey").unlink()
-    (changed / f"{CUT}.survey").write_bytes(bytes(47))
+    (changed / f"{CUT}.survey").write_bytes(bytes(55))
     expected = [f"{CUT}.survey is not the cut of six_rows.survey", "six_rows.survey has no TOML", "fifty_cubic_metres.toml has no survey"]
     check("files that lack each other and a wrong cut are found", expected, disagreements(changed))
 
@@ -104,6 +104,7 @@ def examples(folder: Path) -> None:
 HEADER = "head_kind dip_diameter shell_length circumference_left circumference_right flange_length head_length step".split()
 COURSE = "first_circumference second_circumference length thickness".split()
 DEADWOOD = "low_height high_height volume".split()
+SEAM = "number thickness width".split()
 
 
 def figure(word: int, dice: random.Random) -> str:
@@ -123,7 +124,7 @@ def written(keys: list[str], record: list[int], dice: random.Random) -> list[str
     """The lines of a table, in any order, with odd spaces, quotes and comments."""
     lines = []
     for key, word in zip(keys, record):
-        value = figure(word, dice)
+        value = str(word) if key == "number" else figure(word, dice)
         if key == "head_kind":
             value = dice.choice([str(word), *{0: ['"flat"'], 1: ["'half-ellipsoid'"], 2: ['"spherical-cap"']}.get(word, [])])
         lines.append(dice.choice(["{} = {}", "  {}={} # [[course]]", '"{}" = {}', "'{}'\t= {}", "\n# = [\n{} = {}"]).format(key, value))
@@ -139,15 +140,24 @@ def random_surveys(folder: Path) -> None:
         header = [dice.choice([0, 1, 2, 3, 2**32 - 1]), *words(0, 2**32 - 1, 7, dice)]
         courses = [words(0, 2**32 - 1, 4, dice) for _ in range(dice.choice([0, 1, 2, 5]))]
         deadwood = [words(0, 2**32 - 1, 2, dice) + words(-(2**31), 2**31 - 1, 1, dice) for _ in range(dice.choice([0, 0, 1, 3]))]
-        lines = written(HEADER, header, dice)
-        for name, keys, records in (("course", COURSE, courses), ("deadwood", DEADWOOD, deadwood)):
+        # none said, which is zeros for each course; as many as courses, of which some are zeros; or another number of them
+        none = [[0, 0, 0] for _ in courses]
+        some = [dice.choice([zeros, words(0, 2**32 - 1, 3, dice)]) for zeros in none]
+        other = [words(0, 2**32 - 1, 3, dice) for _ in range(dice.choice([0, 1, 3]))]
+        seams = dice.choice([None, none, some, some, other, other])
+        lines = written(HEADER, header, dice) + ["seam = []"] * (seams == [] != none)
+        seams, said = none if seams is None else seams, seams or []
+        for name, keys, records in (("course", COURSE, courses), ("deadwood", DEADWOOD, deadwood), ("seam", SEAM, said)):
             for record in records:
                 lines += [f"[[{name}]]", *written(keys, record, dice)]
         toml, survey = folder / "random.toml", folder / "random.survey"
         toml.write_text(dice.choice(["\n", "\r\n"]).join("\n".join(lines).split("\n")), newline="")
-        places = [len(courses), 48 if courses else 0, len(deadwood), 48 + 16 * len(courses) if deadwood else 0]
-        data = struct.pack("<12I", *header, *places)
-        data += b"".join(struct.pack("<4I", *record) for record in courses) + b"".join(struct.pack("<2Ii", *record) for record in deadwood)
+        places, end = [], 56
+        for records, size in ((courses, 16), (deadwood, 12), (seams, 12)):
+            places += [len(records), end if records else 0]
+            end += size * len(records)
+        data = struct.pack("<14I", *header, *places) + b"".join(struct.pack("<4I", *record) for record in courses)
+        data += b"".join(struct.pack("<2Ii", *record) for record in deadwood) + b"".join(struct.pack("<3I", *record) for record in seams)
         made = run("make", toml)
         tried["made"] += (made.returncode, made.stdout, made.stderr) == (0, data, b"")
         survey.write_bytes(data)
@@ -157,6 +167,9 @@ def random_surveys(folder: Path) -> None:
         same = [kind, *(told[key] * 100 for key in HEADER[1:])] == header and list(told)[: len(HEADER)] == HEADER
         same = same and [[item[key] * 100 for key in COURSE] for item in told.get("course", [])] == courses
         same = same and [[item[key] * 100 for key in DEADWOOD] for item in told.get("deadwood", [])] == deadwood
+        # zeros for each course are left out
+        shown_seams = [[item["number"], *(item[key] * 100 for key in SEAM[1:])] for item in told["seam"]] if "seam" in told else none
+        same = same and shown_seams == seams and ("seam" in told) == (seams != none)
         tried["shown"] += same and shown.stderr == b""
         toml.write_bytes(shown.stdout)
         tried["made again"] += run("make", toml).stdout == data
@@ -187,6 +200,14 @@ thickness = 5
 low_height = 0
 high_height = 1
 volume = -21_474_836.48
+[[seam]]
+number = 2
+thickness = 2.00
+width = 12
+[[seam]]
+number = 0
+thickness = 0
+width = 0
 """
 BRACKETS = "{0} must be written as tables that each start with [[{0}]], in double brackets"
 KIND = 'head_kind must be "flat", "half-ellipsoid", "spherical-cap" or a whole number'
@@ -221,6 +242,14 @@ EDITS = [
     ("a missing key", "length = 0\nthickness = 5", "length = 0", ":14: course 2: missing key thickness"),
     ("a missing key of the header", "step = 100", "", ": missing key step"),
     ("a key below the wrong table", "step = 100\n[[course]]", "[[course]]\nstep = 100", ": missing key step\n:9: course 1: unknown key step"),
+    ("seams with decimals", "number = 2", "number = 2.0", ":24: seams of course 1: number must be a whole number"),
+    ("seams as a text", "number = 0", 'number = "flat"', ":28: seams of course 2: number must be a whole number"),
+    ("seams below zero", "number = 0", "number = -1", ":28: seams of course 2: number is negative"),
+    ("seams too many", "number = 2", "number = 4294967296", ":24: seams of course 1: number does not fit its 32 bits: 0 to 4294967295"),
+    ("a seam's third decimal", "thickness = 2.00", "thickness = 2.005", ":25: seams of course 1: thickness has more than two decimals"),
+    ("a seam's width below zero", "width = 12", "width = -12", ":26: seams of course 1: width is negative"),
+    ("a seam's missing key", "width = 0", "", ":27: seams of course 2: missing key width"),
+    ("a seam's unknown key", "width = 12", "width = 12\nlength = 1", ":27: seams of course 1: unknown key length"),
     ("[deadwood]", "[[deadwood]]", "[deadwood]", f":19: {BRACKETS.format('deadwood')}"),
     ("[[course]] after a course of another kind", "step = 100", "step = 100\ncourse = 3", ": Cannot overwrite a value (at line 10, column 9)"),
     ("a syntax error", "step = 100", "step = ", ": Invalid value (at line 8, column 8)"),
@@ -277,7 +306,7 @@ def errors(folder: Path) -> None:
     for name, mark in (("the tank that is edited below", ""), ("the same after a byte order mark", "\ufeff")):
         file.write_bytes((mark + TANK).encode())
         came = run("make", file)
-        check(name, (0, 48 + 2 * 16 + 12, b""), (came.returncode, len(came.stdout), came.stderr))
+        check(name, (0, 56 + 2 * 16 + 12 + 2 * 12, b""), (came.returncode, len(came.stdout), came.stderr))
     for name, old, new, told in EDITS:
         assert old in TANK, old
         refused(name, TANK.replace(old, new), told)
@@ -288,10 +317,12 @@ def errors(folder: Path) -> None:
     refused("[course] once", header + "[course]\nlength = 1\n", f":9: {brackets}")
     for value in ("3", "[3]", '"none"'):
         refused(f"course = {value}", header + f"course = {value}\n", f":9: {brackets}")
+        refused(f"seam = {value}", header + f"seam = {value}\n", f":9: {BRACKETS.format('seam')}")
+    refused("[seam] once", header + "[seam]\nnumber = 1\n", f":9: {BRACKETS.format('seam')}")
     refused("odd writing, all faults at once", ODD, "\n".join(ODD_TOLD))
     refused("odd writing with Windows line ends", ODD.replace("\n", "\r\n"), "\n".join(ODD_TOLD))
     refused("tables inside a value", header.replace("step = 100\n", INLINE), ":9: deadwood 2: volume has more than two decimals")
-    refused("not UTF-8", TANK.encode() + b"# \xff\n", ":23: not UTF-8 text")
+    refused("not UTF-8", TANK.encode() + b"# \xff\n", ":31: not UTF-8 text")
     for command in ("make", "show"):
         for what, why in ((folder / "nowhere", "No such file or directory"), (folder, "Is a directory")):
             came = run(command, what)
@@ -311,17 +342,55 @@ def shown_or_not(folder: Path) -> None:
         check(name, (0 if expected else 1, expected, f"{file}: {told}\n"), (came.returncode, came.stdout, came.stderr.decode()))
 
     def placed(*places: int) -> bytes:
-        return six[:32] + struct.pack("<4I", *places)
+        return six[:32] + struct.pack("<6I", *places)
 
-    shown("an empty file", b"", "0 bytes are too few for the header's 48", b"")
-    shown("a file cut short", six[:47], "47 bytes are too few for the header's 48", b"")
-    shown("a course cut short", six[:63], "course ends at byte 64, past the file's 63", b"")
-    both = f"course ends at byte 68719476768, past the file's 48\n{file}: deadwood ends at byte 60, past the file's 48"
-    shown("sections outside", placed(2**32 - 1, 48, 1, 48), both, b"")
+    shown("an empty file", b"", "0 bytes are too few for the header's 56", b"")
+    shown("a file cut short", six[:55], "55 bytes are too few for the header's 56", b"")
+    both = "course ends at byte 72, past the file's 71\n{0}: seam ends at byte 84, past the file's 71"
+    shown("a course cut short", six[:71], both.format(file), b"")
+    shown("a seam cut short", six[:83], "seam ends at byte 84, past the file's 83", b"")
+    outside = ["course ends at byte 68719476776", "deadwood ends at byte 68", "seam ends at byte 80"]
+    told = f"\n{file}: ".join(f"{words}, past the file's 56" for words in outside)
+    shown("sections outside", placed(2**32 - 1, 56, 1, 56, 2, 56), told, b"")
     shown("bytes behind the sections", six + b"more", "not shown: bytes in no section: 4", toml)
-    elsewhere = "not shown: bytes in no section: 2; course at byte 50, which make puts at 48"
-    shown("a section elsewhere", placed(1, 50, 0, 0) + b"ab" + six[48:], elsewhere, toml)
-    shown("an empty section's place", placed(1, 48, 0, 99) + six[48:], "not shown: deadwood at byte 99, which make puts at 0", toml)
+    elsewhere = "not shown: bytes in no section: 2; course at byte 58, which make puts at 56; seam at byte 74, which make puts at 72"
+    shown("sections elsewhere", placed(1, 58, 0, 0, 1, 74) + b"ab" + six[56:], elsewhere, toml)
+    shown("an empty section's place", placed(1, 56, 0, 99, 1, 72) + six[56:], "not shown: deadwood at byte 99, which make puts at 0", toml)
+    old = "seam ends at byte 2082873, past the file's 64"
+    shown("a file from before there were seams", (EXAMPLES / "old/six_rows.survey").read_bytes(), old, b"")
+
+
+def seams(folder: Path) -> None:
+    """Zeros for each course need not be written and are not shown; every other seam section is both, one of another count than the courses' too."""
+    toml, survey = folder / "seams.toml", folder / "seams.survey"
+    text, six = (EXAMPLES / "six_rows.toml").read_text(), (EXAMPLES / "six_rows.survey").read_bytes()
+    plain = run("show", EXAMPLES / "six_rows.survey").stdout.decode()
+
+    def both_ways(name: str, written: str, records: list[tuple[int, int, int]], expected: str) -> None:
+        data = six[:48] + struct.pack("<2I", len(records), 72 if records else 0) + six[56:72]
+        data += b"".join(struct.pack("<3I", *record) for record in records)
+        toml.write_text(written)
+        check(f"{name}: made", data, run("make", toml).stdout)
+        survey.write_bytes(data)
+        shown = run("show", survey)
+        check(f"{name}: shown", (expected, b""), (shown.stdout.decode(), shown.stderr))
+        toml.write_bytes(shown.stdout)
+        check(f"{name}: made again", data, run("make", toml).stdout)
+
+    def table(at: int, number: int, thickness: str, width: str) -> str:
+        lines = [("[[seam]]", f"seams of course {at}"), (f"number = {number}", "seams that the tape crosses")]
+        lines += [(f"thickness = {thickness}", "of each, above the plate, mm"), (f"width = {width}", "of each, mm")]
+        return "\n" + "".join(f"{line:32}# {comment}\n" for line, comment in lines)
+
+    zeros = "\n[[seam]]\nnumber = 0\nthickness = 0\nwidth = 0\n"
+    raised = zeros.replace("number = 0\nthickness = 0", "number = 12\nthickness = 10.01")
+    both_ways("no table", text, [(0, 0, 0)], plain)
+    both_ways("a table of zeros", text + zeros, [(0, 0, 0)], plain)
+    both_ways("a table", text + raised, [(12, 1001, 0)], plain + table(1, 12, "10.01", "0.00"))
+    both_ways("a width alone", text + zeros.replace("width = 0", "width = 50"), [(0, 0, 5000)], plain + table(1, 0, "0.00", "50.00"))
+    both_ways("two tables for one course", text + zeros + zeros, [(0, 0, 0)] * 2, plain + table(1, 0, "0.00", "0.00") + table(2, 0, "0.00", "0.00"))
+    none = "seam = []                       # not one for each course\n"
+    both_ways("an empty section", "seam = []\n" + text, [], plain.replace("\n\n[[course]]", f"\n{none}\n[[course]]"))
 
 
 def use_and_writes(folder: Path) -> None:
@@ -355,7 +424,7 @@ def use_and_writes(folder: Path) -> None:
 
 
 with tempfile.TemporaryDirectory() as scratch:
-    for part in (examples, random_surveys, errors, shown_or_not, use_and_writes):
+    for part in (examples, random_surveys, errors, shown_or_not, seams, use_and_writes):
         part(Path(scratch))
 print(f"{passed + failed} checks of tools/survey.py, {failed} failed")
 sys.exit(1 if failed else 0)

@@ -7,6 +7,7 @@ from pathlib import Path
 ROOT = Path(__file__).resolve().parent.parent
 TABLE = ROOT / "target/bin/tanktable"
 LOOKUP = ROOT / "target/bin/tanklookup"
+CONVERT = ROOT / "target/bin/tankconvert"
 SIX_ROWS = (ROOT / "examples/six_rows.survey").read_bytes()
 
 checks = failures = 0
@@ -21,19 +22,32 @@ def same(what, expected, found):
         print(f"FAILED: {what}\n  expected {expected!r}\n  found    {found!r}")
 
 
-def run(program, *words, survey=SIX_ROWS):
-    """What a program writes to standard output and to standard error; its exit status is always 0."""
+def run_for_bytes(program, *words, survey=SIX_ROWS):
+    """What a program writes to standard output, as bytes, and to standard error; its exit status is always 0."""
     done = subprocess.run([program, *words], input=survey, capture_output=True, timeout=60)
-    same(f"exit status of {program.name} {' '.join(words)}", 0, done.returncode)
-    return done.stdout.decode(), done.stderr.decode()
+    same(f"exit status of {program.name} {' '.join(words)}"[:100], 0, done.returncode)
+    return done.stdout, done.stderr.decode()
 
 
-def survey(*, kind=0, dh=50_000, l1=100_000, left=160_221, right=160_221, l2=0, l3=0, step=10_000, courses=None, deadwood=(), places=None):
-    """A survey's bytes, the six rows' where nothing else is said. `places` are the two sections' byte offsets."""
+def run(program, *words, survey=SIX_ROWS):
+    """The same of a program that writes text."""
+    written, said = run_for_bytes(program, *words, survey=survey)
+    return written.decode(), said
+
+
+def survey(*, kind=0, dh=50_000, l1=100_000, left=160_221, right=160_221, l2=0, l3=0, step=10_000,
+           courses=None, deadwood=(), seams=None, places=None):
+    """A survey's bytes, the six rows' where nothing else is said; seams are none for each course. The sections stand end to end, and `places` are
+    the byte offsets that the header gives for them."""
     courses = [(160_221, 160_221, 100_000, 500)] if courses is None else courses
-    at = places or (48, 48 + 16 * len(courses))
-    head = struct.pack("<12I", kind, dh, l1, left, right, l2, l3, step, len(courses), at[0], len(deadwood), at[1])
-    return head + b"".join(struct.pack("<4I", *c) for c in courses) + b"".join(struct.pack("<2Ii", *d) for d in deadwood)
+    seams = [(0, 0, 0)] * len(courses) if seams is None else seams
+    data, found = b"", []
+    for layout, records in ("<4I", courses), ("<2Ii", deadwood), ("<3I", seams):
+        found += [(len(records), 56 + len(data) if records else 0)]
+        data += b"".join(struct.pack(layout, *record) for record in records)
+    if places:
+        found = [(count, place) for (count, _), place in zip(found, places)]
+    return struct.pack("<14I", kind, dh, l1, left, right, l2, l3, step, *found[0], *found[1], *found[2]) + data
 
 
 def try_all(what, *parts):

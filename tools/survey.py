@@ -3,6 +3,9 @@
 
 Lengths are in mm and volumes in litres, as on the tape, with at most two decimals; the file holds whole hundredths, so every figure is kept
 exactly. What is checked is the shape, not the limits: a survey that the library must refuse can be written and shown too.
+
+The seams stand in [[seam]] tables, one for each course in the courses' order. A file without any has none to correct for: make writes zeros for
+each course, and show leaves just these zeros out again. `seam = []` is a seam section without records.
 """
 import json
 import os
@@ -17,6 +20,8 @@ from typing import Any, NamedTuple
 USE = """use: tools/survey.py make TANK.toml > TANK.survey    makes a survey file
      tools/survey.py show TANK.survey > TANK.toml    shows a survey file
 Lengths are in mm, volumes in litres, with at most two decimals. examples/ holds files of both kinds.
+Without [[seam]] tables no course has seams. With them there is one for each course, in the courses' order.
+A survey file from before there were seams, with a header of 48 bytes, is converted first: tankconvert 48 < OLD > TANK.survey
 """
 
 
@@ -52,8 +57,15 @@ SECTIONS = {
         Field("high_height", "I", "mm", "dip height, mm"),
         Field("volume", "i", "litres", "litres that it takes away; below zero, that it adds"),
     ),
+    "seam": (
+        Field("number", "I", "seams", "seams that the tape crosses"),
+        Field("thickness", "I", "mm", "of each, above the plate, mm"),
+        Field("width", "I", "mm", "of each, mm"),
+    ),
 }
+TITLES = {"seam": "seams of course"}  # what a record is called with its number behind it, where that is not its table's name
 HEAD_KINDS = ("flat", "half-ellipsoid", "spherical-cap")  # a kind's number is its place here; a kind without a name is written as a number
+DECIMALS = {"kind": 0, "mm": 2, "litres": 2, "seams": 0}
 BOUNDS = {"I": (0, 2**32 - 1), "i": (-(2**31), 2**31 - 1)}
 TOML_TYPES = {str: "a text", bool: "true or false", list: "an array", dict: "a table"}
 BRACKETS = "{0} must be written as tables that each start with [[{0}]], in double brackets"
@@ -166,11 +178,11 @@ def parse(file: str) -> tuple[dict[str, Any], dict[Place, int]]:
 
 def number(field: Field, value: Any) -> int:
     """The number that stands in the file for a value of the TOML; a ValueError says why there is none."""
-    decimals = 0 if field.unit == "kind" else 2
-    if decimals == 0 and value in HEAD_KINDS:
-        return HEAD_KINDS.index(value)
+    decimals, kinds = DECIMALS[field.unit], HEAD_KINDS if field.unit == "kind" else ()
+    if value in kinds:
+        return kinds.index(value)
     if decimals == 0 and type(value) is not int:
-        raise ValueError("must be " + ", ".join(f'"{kind}"' for kind in HEAD_KINDS) + " or a whole number")
+        raise ValueError("must be " + ", ".join(f'"{kind}"' for kind in kinds) + (" or " if kinds else "") + "a whole number")
     if type(value) not in (int, Decimal):
         raise ValueError(f"must be a number of {field.unit}, not {TOML_TYPES.get(type(value), 'a date or time')}")
     figure = Decimal(value)
@@ -188,7 +200,7 @@ def number(field: Field, value: Any) -> int:
 
 def numbers(fields: tuple[Field, ...], table: dict[str, Any], place: Place, faults: list[Fault]) -> list[int]:
     """A table's numbers in the file's order. What is wrong with it joins the faults, all of it, and its number is left out."""
-    title = f"{place[0]} {place[1] + 1}: " if place else ""
+    title = f"{TITLES.get(place[0], place[0])} {place[1] + 1}: " if place else ""
     for key in table:
         if key not in [field.key for field in fields]:
             name = key if re.fullmatch("[A-Za-z0-9_-]+", key) else json.dumps(key)
@@ -228,6 +240,8 @@ def make(file: str) -> bytes:
     faults: list[Fault] = []
     head = numbers(HEADER, {key: value for key, value in data.items() if key not in SECTIONS}, (), faults)
     sections = {name: section(name, data.get(name, []), faults) for name in SECTIONS}
+    if "seam" not in data:
+        sections["seam"] = [[0] * len(SECTIONS["seam"]) for _ in sections["course"]]
     if faults:
         raise Refused(told(file, lines, faults))
     for name, offset in offsets({name: len(records) for name, records in sections.items()}).items():
@@ -242,9 +256,9 @@ def assignments(fields: tuple[Field, ...], words: tuple[int, ...]) -> list[tuple
     """A line of TOML and its comment for each number."""
     shown = []
     for field, word in zip(fields, words):
-        value = str(Decimal(word).scaleb(-2))
-        if field.unit == "kind":
-            value = f'"{HEAD_KINDS[word]}"' if word < len(HEAD_KINDS) else str(word)
+        value = str(Decimal(word).scaleb(-DECIMALS[field.unit]))
+        if field.unit == "kind" and word < len(HEAD_KINDS):
+            value = f'"{HEAD_KINDS[word]}"'
         shown.append((f"{field.key} = {value}", field.comment))
     return shown
 
@@ -271,10 +285,15 @@ def show(file: str) -> bytes:
     outside = [f"{file}: {name} ends at byte {end}, past the file's {len(data)}" for name, end in ends.items() if end > len(data)]
     if outside:
         raise Refused("\n".join(outside))
+    records = {name: list(RECORDS[name].iter_unpack(data[places[name] : end])) for name, end in ends.items()}
     shown = assignments(HEADER, words)
-    for name, end in ends.items():
-        for at, record in enumerate(RECORDS[name].iter_unpack(data[places[name] : end]), 1):
-            shown += [("", ""), (f"[[{name}]]", f"{name} {at}")] + assignments(SECTIONS[name], record)
+    if counts["seam"] == counts["course"] and not any(map(any, records.get("seam", []))):
+        records.pop("seam", None)  # which make writes by itself
+    elif counts["seam"] == 0:
+        shown.append(("seam = []", "not one for each course"))
+    for name in records:
+        for at, record in enumerate(records[name], 1):
+            shown += [("", ""), (f"[[{name}]]", f"{TITLES.get(name, name)} {at}")] + assignments(SECTIONS[name], record)
     if left := not_shown(len(data), counts, places):
         sys.stderr.write(f"{file}: not shown: {left}\n")
     width = max(len(line) for line, _ in shown) + 2

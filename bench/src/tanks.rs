@@ -1,10 +1,12 @@
 //! The surveys whose tables are timed.
 
 use reference::deadwood::Deadwood;
+use reference::format::Format;
 use reference::generate::plan::{Layout, Plan};
 use reference::heights::DipHeight;
 use reference::limits::{FLAT, SPHERICAL_CAP};
-use reference::survey::Course;
+use reference::rise::Seams;
+use reference::survey::{Course, Survey};
 
 const THICKNESS: u32 = 500;
 
@@ -110,7 +112,7 @@ fn survey(size: Size) -> Vec<u8> {
         length: size.l1 / size.courses,
         thickness: THICKNESS,
     };
-    let plan = Plan {
+    let survey = Survey {
         kind: size.kind,
         dh: size.dh,
         l1: size.l1,
@@ -123,14 +125,12 @@ fn survey(size: Size) -> Vec<u8> {
         deadwood: (0..size.deadwood)
             .map(|item| fitting(size.dh, item))
             .collect(),
-        layout: Layout {
-            deadwood_first: false,
-            gap_before: 0,
-            gap_between: 0,
-            gap_after: 0,
-            empty_offset: 0,
-            filler: 0,
-        },
+        seams: vec![Seams::NONE; size.courses as usize],
+    };
+    let plan = Plan {
+        format: Format::TODAY,
+        survey,
+        layout: Layout::PLAIN,
     };
     plan.encode()
 }

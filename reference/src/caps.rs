@@ -1,52 +1,29 @@
 //! What a survey file with spherical caps tries: for counting how often each
 //! edge of request E2 was tried.
 
+use crate::counted::counted;
 use crate::dimensions::{d2, longest_cap};
+use crate::format::Format;
 use crate::limits::SPHERICAL_CAP;
 use crate::survey::parse;
 
-/// Something about spherical caps of which a table was made; but for the one
-/// past the longest, which is refused.
-#[derive(Clone, Copy, Debug, PartialEq, Eq, PartialOrd, Ord)]
-pub enum Cap {
-    Any,
-    Length1,
-    Length99,
-    Length100,
-    Length101,
-    LastLengthCutShort,
-    LastLevelCutShort,
-    HalfBall,
-    OnePastLongest,
+counted! {
+    /// Something about spherical caps of which a table was made; but for the one
+    /// past the longest, which is refused.
+    pub enum Cap {
+        Any => "any table",
+        Length1 => "length 1",
+        Length99 => "length 99",
+        Length100 => "length 100",
+        Length101 => "length 101",
+        LastLengthCutShort => "last length cut short",
+        LastLevelCutShort => "last level cut short",
+        HalfBall => "2h = D2",
+        OnePastLongest => "one past the longest, refused with 14",
+    }
 }
 
 impl Cap {
-    pub const ALL: [Cap; 9] = [
-        Cap::Any,
-        Cap::Length1,
-        Cap::Length99,
-        Cap::Length100,
-        Cap::Length101,
-        Cap::LastLengthCutShort,
-        Cap::LastLevelCutShort,
-        Cap::HalfBall,
-        Cap::OnePastLongest,
-    ];
-
-    pub fn name(self) -> &'static str {
-        match self {
-            Cap::Any => "any table",
-            Cap::Length1 => "length 1",
-            Cap::Length99 => "length 99",
-            Cap::Length100 => "length 100",
-            Cap::Length101 => "length 101",
-            Cap::LastLengthCutShort => "last length cut short",
-            Cap::LastLevelCutShort => "last level cut short",
-            Cap::HalfBall => "2h = D2",
-            Cap::OnePastLongest => "one past the longest, refused with 14",
-        }
-    }
-
     /// The refusal that it meets; 0 is a table.
     fn refusal(self) -> u32 {
         match self {
@@ -80,7 +57,7 @@ impl Cap {
 
 /// L3 and D2 of a file with spherical caps that passes refusals 1 to 6.
 fn sizes(file: &[u8]) -> Option<(u32, u32)> {
-    let survey = parse(file).ok()?;
+    let survey = parse(file, Format::TODAY).ok()?;
     let d2 = u32::try_from(d2(&survey)).ok()?;
     (survey.kind == SPHERICAL_CAP).then_some((survey.l3, d2))
 }

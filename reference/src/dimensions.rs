@@ -37,12 +37,14 @@ pub fn longest_cap(d2: u32) -> u32 {
     d2 / 2
 }
 
-/// "D1 is outer minus wall."
+/// "D1 is outer minus wall." The outer diameter is that of the corrected
+/// readings.
 pub fn d1(survey: &Survey) -> i64 {
-    shell_outer_diameter(&survey.courses) - wall(&survey.courses)
+    shell_outer_diameter(&survey.corrected_courses()) - wall(&survey.courses)
 }
 
-/// "D2 (flange and head): ..., minus the same wall".
+/// "D2 (flange and head): ..., minus the same wall". "the two end readings are
+/// taken clear of seams and stay".
 pub fn d2(survey: &Survey) -> i64 {
     end_outer_diameter(survey.left, survey.right) - wall(&survey.courses)
 }

@@ -2,9 +2,11 @@
 //! always the same bytes.
 //!
 //! A case is made in three steps: a plan of a survey (sound, with diameters at
-//! their limits, with spherical caps as long as can be or longer, or with
-//! deadwood that makes a row fall or almost fall), then none to three kinds of
-//! damage to its bytes, then a length for the table.
+//! their limits, with spherical caps as long as can be or longer, with seams or
+//! corrected readings at an edge, or with deadwood that makes a row fall or
+//! almost fall), then none to three kinds of damage to its bytes, then a length
+//! for the table. A case for the converter is made likewise, in the old format
+//! and without a table.
 
 pub mod caps;
 pub mod damage;
@@ -13,11 +15,14 @@ pub mod falling;
 pub mod lengths;
 pub mod lookups;
 pub mod plan;
+pub mod seams;
 pub mod sound;
 
+use crate::format::Format;
+use crate::limits::{COURSE_BYTES, DEADWOOD_BYTES, SEAM_BYTES};
 use crate::random::Random;
 use crate::rows::{row_count, MOST_ROWS};
-use plan::Plan;
+use plan::{Part, Plan};
 
 /// A survey of any bytes and the length of the table lent for it.
 #[derive(Clone, Debug, PartialEq, Eq)]
@@ -30,43 +35,84 @@ pub struct Case {
 pub fn case(seed: u64, number: u64) -> Case {
     let random = &mut Random::for_case(seed, number);
     if random.one_in(60) {
-        return any_bytes(random);
+        return Case {
+            survey: any_bytes(random, Format::TODAY),
+            table_len: MOST_ROWS,
+        };
     }
     let plan = any_plan(random);
-    let mut survey = plan.encode();
-    for _ in 0..damage_count(random) {
-        damage::damage(random, &plan, &mut survey);
-    }
+    let survey = encoded(random, &plan);
     let table_len = table_len(random, &plan);
     Case { survey, table_len }
+}
+
+/// Case `number` of a seed for the converter: a file of the old format.
+pub fn old_case(seed: u64, number: u64) -> Vec<u8> {
+    let random = &mut Random::for_case(seed, number);
+    if random.one_in(60) {
+        return any_bytes(random, Format::Header48);
+    }
+    let plan = old_plan(random);
+    encoded(random, &plan)
 }
 
 /// A sound survey and a table long enough for it: most are accepted.
 pub fn sound_case(seed: u64, number: u64) -> Case {
     let random = &mut Random::for_case(seed, number);
-    let plan = sound::sound(random);
+    let plan = sound::sound(random, Format::TODAY);
     Case {
         survey: plan.encode(),
-        table_len: row_count(plan.dh, plan.step),
+        table_len: row_count(plan.survey.dh, plan.survey.step),
     }
 }
 
 fn any_plan(random: &mut Random) -> Plan {
     match random.between(1, 20) {
-        1..=2 => diameters::at_limits(random),
-        3..=5 => falling::falling(random),
-        6 => sound::wild_deadwood(random),
-        7 => caps::at_longest(random),
-        _ => sound::sound(random),
+        1..=3 => seams::at_edges(random),
+        _ => plan_of(random, Format::TODAY),
     }
 }
 
-/// Nearly half of the plans stay whole; a few get more than one damage, to try
-/// the order of refusals.
-fn damage_count(random: &mut Random) -> u32 {
+/// One in 20 has as many records as there may be, for the largest file that the
+/// converter writes.
+fn old_plan(random: &mut Random) -> Plan {
     match random.between(1, 20) {
-        1..=9 => 0,
-        10..=17 => 1,
+        1 => sound::most_records(random, Format::Header48),
+        _ => plan_of(random, Format::Header48),
+    }
+}
+
+/// A plan as there are some in each format.
+fn plan_of(random: &mut Random, format: Format) -> Plan {
+    match random.between(1, 40) {
+        1..=5 => diameters::at_limits(random, format),
+        6..=12 => falling::falling(random, format),
+        13..=15 => caps::at_longest(random, format),
+        16 => sound::most_records(random, format),
+        17..=18 => sound::wild_deadwood(random, format),
+        _ => sound::sound(random, format),
+    }
+}
+
+/// The bytes of a plan, damaged or not.
+fn encoded(random: &mut Random, plan: &Plan) -> Vec<u8> {
+    let mut survey = plan.encode();
+    for _ in 0..damage_count(random, plan.format) {
+        damage::damage(random, plan, &mut survey);
+    }
+    survey
+}
+
+/// Nearly half of the plans stay whole, of old ones, of which there are fewer,
+/// a third; a few get more than one damage, to try the order of refusals.
+fn damage_count(random: &mut Random, format: Format) -> u32 {
+    let whole = match format {
+        Format::Header48 => 6,
+        Format::Header56 => 9,
+    };
+    match random.between(1, 20) {
+        count if count <= whole => 0,
+        ..=17 => 1,
         18..=19 => 2,
         _ => 3,
     }
@@ -74,7 +120,7 @@ fn damage_count(random: &mut Random) -> u32 {
 
 /// Mostly enough: exact, one more, or more; else one too few or none at all.
 fn table_len(random: &mut Random, plan: &Plan) -> usize {
-    let exact = row_count(plan.dh, plan.step);
+    let exact = row_count(plan.survey.dh, plan.survey.step);
     match random.between(1, 24) {
         1 => exact - 1,
         2 => random.pick(&[0, 1, exact / 2]),
@@ -87,19 +133,27 @@ fn table_len(random: &mut Random, plan: &Plan) -> usize {
 
 /// Bytes without a plan; half of them with counts and offsets that lead past
 /// refusals 2 and 3.
-fn any_bytes(random: &mut Random) -> Case {
+fn any_bytes(random: &mut Random, format: Format) -> Vec<u8> {
     let length = random.index(0, 300);
     let mut survey = random.bytes(length);
-    if length >= 80 && random.one_in(2) {
+    let courses = format.header_bytes();
+    let deadwood = courses + COURSE_BYTES;
+    let seams = deadwood + DEADWOOD_BYTES;
+    if length >= seams + SEAM_BYTES && random.one_in(2) {
         let deadwood_count = random.pick(&[0, 1]);
-        for (at, number) in [(32, 1), (36, 48), (40, deadwood_count), (44, 64)] {
-            plan::put(&mut survey, at, number);
+        let mut sections = vec![
+            (Part::Courses, 1, courses),
+            (Part::Deadwood, deadwood_count, deadwood),
+        ];
+        if format.has_seams() {
+            sections.push((Part::Seams, 1, seams));
+        }
+        for (part, count, offset) in sections {
+            plan::put(&mut survey, part.count_at(), count);
+            plan::put(&mut survey, part.offset_at(), offset as u32);
         }
         let kind = random.between(0, 3);
         plan::put(&mut survey, 0, kind);
     }
-    Case {
-        survey,
-        table_len: MOST_ROWS,
-    }
+    survey
 }

@@ -1,7 +1,7 @@
 //! A second, independent program for dip tables of level, round tanks.
 //!
-//! It is written from the scope paper and requests E1 and E2 of the paper on
-//! later changes alone, and aims at being easy to compare with them, sentence by
+//! It is written from the scope paper and requests E1, E2 and E4 of the paper
+//! on later changes alone, and aims at being easy to compare with them, sentence by
 //! sentence. Sentences in quotation marks are taken from the papers. What the
 //! programs print beside that, and their sentences for refusals, are those of
 //! their users' documents.
@@ -12,13 +12,18 @@
 pub mod big;
 pub mod bytes;
 pub mod caps;
+pub mod conversions;
+pub mod convert;
+mod counted;
 pub mod deadwood;
 pub mod dimensions;
 pub mod domes;
+pub mod format;
 pub mod generate;
 pub mod given;
 pub mod gross;
 pub mod heights;
+pub mod limited;
 pub mod limits;
 pub mod lookup;
 pub mod misses;
@@ -26,6 +31,8 @@ pub mod numbers;
 pub mod printed;
 pub mod random;
 pub mod refusal;
+pub mod rise;
+pub mod rises;
 pub mod rows;
 pub mod sections;
 pub mod slabs;
@@ -35,6 +42,8 @@ pub mod text;
 pub mod volumes;
 pub mod words;
 
+pub use convert::convert;
+pub use format::Format;
 pub use lookup::{delivered, height_for_volume, litres_at_height};
 pub use refusal::Refusal;
-pub use table::{fill_table, make_table, Answer, Table};
+pub use table::{fill_table, make_table, make_table_of, Answer, Table};

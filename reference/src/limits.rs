@@ -1,13 +1,14 @@
 //! The limits in the paper's tables under "The survey file", the allowance of
-//! request E1 and the head kind of request E2.
+//! request E1, the head kind of request E2 and the seams of request E4.
 
-/// "A header of 48 bytes".
-pub const HEADER_BYTES: usize = 48;
 /// "A course is 16 bytes".
 pub const COURSE_BYTES: usize = 16;
 /// "A deadwood item is 12 bytes".
 pub const DEADWOOD_BYTES: usize = 12;
-/// Refusal 1: "file under 48 or over 65,536 bytes".
+/// Request E4: "one item of 12 bytes ... for each course".
+pub const SEAM_BYTES: usize = 12;
+/// Refusal 1: "file under 48 or over 65,536 bytes"; under the header's bytes,
+/// which have grown.
 pub const LARGEST_FILE: usize = 65_536;
 
 /// A smallest and a largest allowed number, both allowed.
@@ -20,6 +21,11 @@ pub struct Limits {
 impl Limits {
     pub fn allow(self, number: u32) -> bool {
         self.low <= number && number <= self.high
+    }
+
+    /// The same of a number that may be below zero, which no limits allow.
+    pub fn allow_signed(self, number: i64) -> bool {
+        u32::try_from(number).is_ok_and(|number| self.allow(number))
     }
 }
 
@@ -50,6 +56,11 @@ pub const THICKNESS: Limits = limits(100, 5_000);
 
 /// Request E1: "Accept a difference of at most 100 u for each course."
 pub const ALLOWANCE_FOR_A_COURSE: u32 = 100;
+
+/// Request E4: "N up to 12, t up to 1,000, w up to 5,000".
+pub const SEAM_NUMBER: Limits = limits(0, 12);
+pub const SEAM_THICKNESS: Limits = limits(0, 1_000);
+pub const SEAM_WIDTH: Limits = limits(0, 5_000);
 
 /// "Volume is -10,000,000 to 10,000,000 v".
 pub const DEADWOOD_VOLUME: i32 = 10_000_000;

@@ -2,50 +2,31 @@
 //! beside the allowance: for counting how often each side and each edge of
 //! refusal 6 was tried.
 
+use crate::counted::counted;
+use crate::format::Format;
 use crate::survey::{length_allowance, parse_numbers, sum_of_lengths};
 
-/// A sum of course lengths that is L1, or short of it or longer: within the
-/// allowance, at it, or one past it. "At" it stands only for several courses:
-/// with one, an allowance for each course and one for the whole file are alike,
-/// so that this counts as within.
-#[derive(Clone, Copy, Debug, PartialEq, Eq, PartialOrd, Ord)]
-pub enum Miss {
-    None,
-    WithinShort,
-    WithinLong,
-    AtShort,
-    AtLong,
-    OnePastShort,
-    OnePastLong,
+counted! {
+    /// A sum of course lengths that is L1, or short of it or longer: within the
+    /// allowance, at it, or one past it. "At" it stands only for several courses:
+    /// with one, an allowance for each course and one for the whole file are alike,
+    /// so that this counts as within.
+    pub enum Miss {
+        None => "none",
+        WithinShort => "within the allowance short",
+        WithinLong => "within the allowance long",
+        AtShort => "exactly the allowance short",
+        AtLong => "exactly the allowance long",
+        OnePastShort => "one past the allowance short",
+        OnePastLong => "one past the allowance long",
+    }
 }
 
 impl Miss {
-    pub const ALL: [Miss; 7] = [
-        Miss::None,
-        Miss::WithinShort,
-        Miss::WithinLong,
-        Miss::AtShort,
-        Miss::AtLong,
-        Miss::OnePastShort,
-        Miss::OnePastLong,
-    ];
-
-    pub fn name(self) -> &'static str {
-        match self {
-            Miss::None => "none",
-            Miss::WithinShort => "within the allowance short",
-            Miss::WithinLong => "within the allowance long",
-            Miss::AtShort => "exactly the allowance short",
-            Miss::AtLong => "exactly the allowance long",
-            Miss::OnePastShort => "one past the allowance short",
-            Miss::OnePastLong => "one past the allowance long",
-        }
-    }
-
     /// The miss of a file that passes refusals 1 to 5; nothing for another file
     /// and for lengths that are further off.
     pub fn of_survey(file: &[u8]) -> Option<Miss> {
-        let survey = parse_numbers(file).ok()?;
+        let survey = parse_numbers(file, Format::TODAY).ok()?;
         let sum = sum_of_lengths(&survey.courses);
         let difference = sum.abs_diff(survey.l1);
         let allowance = length_allowance(&survey.courses);

@@ -1,5 +1,7 @@
 //! What the programs print, on standard output and on standard error.
 
+use crate::convert::convert;
+use crate::format::Format;
 use crate::lookup::{delivered, height_for_volume, litres_at_height};
 use crate::refusal::Refusal;
 use crate::rows::{row_heights, MOST_ROWS};
@@ -8,7 +10,7 @@ use crate::table::{make_table, Table};
 use crate::text::{signed_decimals, two_decimals};
 use crate::words;
 
-/// All that one run of a program writes.
+/// All that one run of a program writes that writes text.
 #[derive(Clone, Debug, Default, PartialEq, Eq)]
 pub struct Printed {
     pub output: String,
@@ -22,6 +24,39 @@ impl Printed {
         self.output += &format!("refused {} {}\n", refusal.number, refusal.place);
         if let Some(sentence) = sentence {
             self.error += &format!("{sentence}\n");
+        }
+    }
+}
+
+/// All that one run of any program writes: the converter's standard output is a
+/// file.
+#[derive(Clone, Debug, PartialEq, Eq)]
+pub struct Written {
+    pub output: Vec<u8>,
+    pub error: String,
+}
+
+impl From<Printed> for Written {
+    fn from(printed: Printed) -> Written {
+        Written {
+            output: printed.output.into_bytes(),
+            error: printed.error,
+        }
+    }
+}
+
+/// What the converter writes for a file with a header of 48 bytes; "for a
+/// refused file it only prints the refusal", as it is in that format.
+pub fn conversion(file: &[u8]) -> Written {
+    match convert(file) {
+        Ok(output) => Written {
+            output,
+            error: String::new(),
+        },
+        Err(refusal) => {
+            let mut printed = Printed::default();
+            printed.refuse(refusal, words::of_survey(file, Format::Header48, refusal));
+            printed.into()
         }
     }
 }
@@ -53,7 +88,7 @@ impl Opened<'_> {
     /// Makes the table of a file; every table has room enough here.
     pub fn new(file: &[u8]) -> Opened<'_> {
         let made = make_table(file, MOST_ROWS).map(|table| Accepted {
-            survey: parse(file).expect("the survey was accepted"),
+            survey: parse(file, Format::TODAY).expect("the survey was accepted"),
             table,
         });
         Opened { file, made }
@@ -84,7 +119,10 @@ impl Opened<'_> {
             Ok(accepted) => of_accepted(accepted),
             Err(refusal) => {
                 let mut printed = Printed::default();
-                printed.refuse(*refusal, words::of_survey(self.file, *refusal));
+                printed.refuse(
+                    *refusal,
+                    words::of_survey(self.file, Format::TODAY, *refusal),
+                );
                 printed
             }
         }

@@ -2,9 +2,12 @@
 
 use crate::bytes::{signed_at, unsigned_at};
 use crate::deadwood::Deadwood;
+use crate::format::Format;
 use crate::heights::DipHeight;
+use crate::limited::first_bad_number;
 use crate::limits::{self, Limits};
 use crate::refusal::{refuse, refuse_at, Refusal};
+use crate::rise::{corrected_courses, Seams};
 use crate::sections::{self, Sections};
 
 /// "A course is 16 bytes: two circumferences, length, thickness".
@@ -16,7 +19,8 @@ pub struct Course {
     pub thickness: u32,
 }
 
-/// A survey with every number inside its limits.
+/// A survey with every number inside its limits, and every corrected reading.
+/// The courses' readings are those of the file; there are seams for each course.
 #[derive(Clone, Debug, PartialEq, Eq)]
 pub struct Survey {
     pub kind: u32,
@@ -29,28 +33,20 @@ pub struct Survey {
     pub step: u32,
     pub courses: Vec<Course>,
     pub deadwood: Vec<Deadwood>,
+    pub seams: Vec<Seams>,
 }
 
-/// A number of the file that has limits of its own: its byte offset, its name
-/// and those limits.
-#[derive(Clone, Copy, Debug, PartialEq, Eq)]
-pub struct Number {
-    pub at: usize,
-    pub name: &'static str,
-    pub limits: Limits,
+impl Survey {
+    /// The courses with the readings that diameters are made of.
+    pub fn corrected_courses(&self) -> Vec<Course> {
+        corrected_courses(&self.courses, &self.seams, self.dh)
+    }
 }
 
-/// Where the one number stands whose limits depend on another.
-pub const L3_AT: usize = 24;
-
-const fn number(at: usize, name: &'static str, limits: Limits) -> Number {
-    Number { at, name, limits }
-}
-
-/// Reads a file of any bytes and any length, with refusals 1 to 6 "tested in
-/// this order".
-pub fn parse(file: &[u8]) -> Result<Survey, Refusal> {
-    let survey = parse_numbers(file)?;
+/// Reads a file of any bytes and any length in a format, with refusals 1 to 6
+/// "tested in this order".
+pub fn parse(file: &[u8], format: Format) -> Result<Survey, Refusal> {
+    let survey = parse_numbers(file, format)?;
 
     // Refusal 6: "course lengths do not add up to L1", by request E1 "only
     // beyond the allowance".
@@ -62,14 +58,14 @@ pub fn parse(file: &[u8]) -> Result<Survey, Refusal> {
 }
 
 /// The same with refusals 1 to 5 alone.
-pub fn parse_numbers(file: &[u8]) -> Result<Survey, Refusal> {
-    // Refusal 1: "file under 48 or over 65,536 bytes".
-    if file.len() < limits::HEADER_BYTES || file.len() > limits::LARGEST_FILE {
+pub fn parse_numbers(file: &[u8], format: Format) -> Result<Survey, Refusal> {
+    // Refusal 1: "file under 48 or over 65,536 bytes", by request E4 under 56.
+    if file.len() < format.header_bytes() || file.len() > limits::LARGEST_FILE {
         return Err(refuse(1));
     }
 
     // Refusals 2 and 3.
-    let sections = sections::find(file)?;
+    let sections = sections::find(file, format)?;
 
     // Refusal 4: "head kind not 0 or 1", nor the 2 of request E2.
     if !limits::HEAD_KIND.allow(unsigned_at(file, 0)) {
@@ -106,76 +102,15 @@ pub fn length_allowance(courses: &[Course]) -> u32 {
     limits::ALLOWANCE_FOR_A_COURSE * courses.len() as u32
 }
 
-/// "byte offset of the first, header, courses, deadwood". The order is that
-/// of the header, then the courses, then the deadwood, wherever the two
-/// sections lie in the file.
-fn first_bad_number(file: &[u8], sections: &Sections) -> Option<usize> {
-    first_bad_in_header(file)
-        .or_else(|| first_bad_in_courses(file, &sections.courses))
-        .or_else(|| first_bad_in_deadwood(file, &sections.deadwood))
-}
-
-/// The header's numbers from DH to the step, in their order.
-pub fn header_numbers(kind: u32) -> [Number; 7] {
-    [
-        number(4, "dip diameter DH", limits::DH),
-        number(8, "shell length L1", limits::L1),
-        number(12, "circumference left", limits::CIRCUMFERENCE),
-        number(16, "circumference right", limits::CIRCUMFERENCE),
-        number(20, "flange length L2", limits::L2),
-        number(L3_AT, "head length L3", limits::l3_limits(kind)),
-        number(28, "step", limits::STEP),
-    ]
-}
-
-/// The numbers of the course at a byte offset, in their order.
-pub fn course_numbers(at: usize) -> [Number; 4] {
-    [
-        number(at, "first circumference", limits::CIRCUMFERENCE),
-        number(at + 4, "second circumference", limits::CIRCUMFERENCE),
-        number(at + 8, "length", limits::COURSE_LENGTH),
-        number(at + 12, "thickness", limits::THICKNESS),
-    ]
-}
-
-fn first_bad_in_header(file: &[u8]) -> Option<usize> {
-    first_outside(file, &header_numbers(unsigned_at(file, 0)))
-}
-
-fn first_bad_in_courses(file: &[u8], offsets: &[usize]) -> Option<usize> {
-    offsets
-        .iter()
-        .find_map(|&at| first_outside(file, &course_numbers(at)))
-}
-
-/// "Low < high ≤ DH; if not, the high number is the bad one. Volume is
-/// -10,000,000 to 10,000,000 v". The low number is never the bad one.
-fn first_bad_in_deadwood(file: &[u8], offsets: &[usize]) -> Option<usize> {
-    let dh = unsigned_at(file, 4);
-    for &at in offsets {
-        let low = unsigned_at(file, at);
-        let high = unsigned_at(file, at + 4);
-        let volume = signed_at(file, at + 8);
-        if low >= high || high > dh {
-            return Some(at + 4);
-        }
-        if volume.unsigned_abs() > limits::DEADWOOD_VOLUME as u32 {
-            return Some(at + 8);
-        }
-    }
-    None
-}
-
-/// The place of the first of the listed numbers that is outside its limits.
-fn first_outside(file: &[u8], numbers: &[Number]) -> Option<usize> {
-    numbers
-        .iter()
-        .find(|number| !number.limits.allow(unsigned_at(file, number.at)))
-        .map(|number| number.at)
-}
-
 /// Takes the numbers over, once they are known to be inside their limits.
 fn read(file: &[u8], sections: &Sections) -> Survey {
+    let mut seams: Vec<Seams> = sections
+        .seams
+        .iter()
+        .map(|&at| read_seams(file, at))
+        .collect();
+    // A format that names no seams has courses without any.
+    seams.resize(sections.courses.len(), Seams::NONE);
     Survey {
         kind: unsigned_at(file, 0),
         dh: unsigned_at(file, 4),
@@ -195,6 +130,7 @@ fn read(file: &[u8], sections: &Sections) -> Survey {
             .iter()
             .map(|&at| read_deadwood(file, at))
             .collect(),
+        seams,
     }
 }
 
@@ -212,5 +148,14 @@ fn read_deadwood(file: &[u8], at: usize) -> Deadwood {
         low: DipHeight(unsigned_at(file, at)),
         high: DipHeight(unsigned_at(file, at + 4)),
         volume: signed_at(file, at + 8),
+    }
+}
+
+/// The seams at a byte offset: N, t and w.
+pub fn read_seams(file: &[u8], at: usize) -> Seams {
+    Seams {
+        number: unsigned_at(file, at),
+        thickness: unsigned_at(file, at + 4),
+        width: unsigned_at(file, at + 8),
     }
 }

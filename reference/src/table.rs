@@ -2,6 +2,7 @@
 
 use crate::deadwood::all_shares;
 use crate::dimensions::dimensions;
+use crate::format::Format;
 use crate::gross::Tank;
 use crate::refusal::{refuse, refuse_at, Refusal};
 use crate::rows::{row_count, row_heights};
@@ -27,10 +28,15 @@ pub struct Answer {
     pub rows: u32,
 }
 
-/// Makes the table of a survey of any bytes, for a lent table of
-/// `table_len` cells.
+/// Makes the table of a survey of any bytes in today's format, for a lent table
+/// of `table_len` cells.
 pub fn make_table(survey: &[u8], table_len: usize) -> Result<Table, Refusal> {
-    let survey = parse(survey)?; // refusals 1 to 6
+    make_table_of(survey, Format::TODAY, table_len)
+}
+
+/// The same of a survey in any format.
+pub fn make_table_of(survey: &[u8], format: Format, table_len: usize) -> Result<Table, Refusal> {
+    let survey = parse(survey, format)?; // refusals 1 to 6
     let dimensions = dimensions(&survey)?; // refusals 7 and 14
 
     // Refusal 8: "lent table shorter than the row count".

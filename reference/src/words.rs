@@ -5,34 +5,36 @@
 
 use crate::bytes::{signed_at, unsigned_at};
 use crate::dimensions::{accepted_diameter, d1, d2, longest_cap};
+use crate::format::Format;
+use crate::limited::{
+    corrected_at, course_numbers, header_numbers, seam_numbers, Number, DH_AT, L3_AT,
+};
 use crate::limits::{self, Limits};
 use crate::refusal::Refusal;
 use crate::rows::row_heights;
-use crate::sections::{self, Section};
-use crate::survey::{
-    accepted_sums, course_numbers, header_numbers, parse, parse_numbers, sum_of_lengths, Number,
-    L3_AT,
-};
+use crate::sections::{self, Section, Sections};
+use crate::survey::{accepted_sums, parse, parse_numbers, sum_of_lengths, Survey};
 use crate::text::with_commas;
 
-/// The sentence for a survey file and the refusal that it meets. Refusal 8
-/// depends on the lent table and refusal 10 comes out of no survey: neither
-/// has a sentence.
-pub fn of_survey(file: &[u8], refusal: Refusal) -> Option<String> {
+/// The sentence for a survey file of a format and the refusal that it meets.
+/// Refusal 8 depends on the lent table and refusal 10 comes out of no survey:
+/// neither has a sentence.
+pub fn of_survey(file: &[u8], format: Format, refusal: Refusal) -> Option<String> {
     let place = refusal.place as usize;
+    let survey = || parse(file, format).ok();
     match refusal.number {
-        1 => Some(file_length(file.len())),
-        2 => bad_count(file),
-        3 => bad_section(file),
+        1 => Some(file_length(file.len(), format)),
+        2 => bad_count(file, format),
+        3 => bad_section(file, format),
         4 => Some(format!(
             "head kind {}: must be 0 (flat), 1 (half-ellipsoid) or 2 (spherical cap)",
             unsigned_at(file, 0)
         )),
-        5 => bad_number(file, place),
-        6 => bad_lengths(file),
-        7 => bad_diameter(file),
-        14 => long_cap(file),
-        9 => falling_row(file, place),
+        5 => bad_number(file, format, place),
+        6 => bad_lengths(&parse_numbers(file, format).ok()?),
+        7 => bad_diameter(&survey()?),
+        14 => long_cap(&survey()?),
+        9 => falling_row(&survey()?, place),
         _ => None,
     }
 }
@@ -55,8 +57,8 @@ pub fn of_lookup(figure: u32, refusal: Refusal, dh: u32, last_row: u32) -> Optio
 }
 
 /// Refusal 1. How much too long a file is, is not told.
-fn file_length(bytes: usize) -> String {
-    let (low, high) = (limits::HEADER_BYTES, limits::LARGEST_FILE);
+fn file_length(bytes: usize, format: Format) -> String {
+    let (low, high) = (format.header_bytes(), limits::LARGEST_FILE);
     if bytes > high {
         format!("file of more than {high} bytes: must have {low} to {high}")
     } else {
@@ -65,54 +67,74 @@ fn file_length(bytes: usize) -> String {
 }
 
 /// Refusal 2: the first count that is wrong.
-fn bad_count(file: &[u8]) -> Option<String> {
-    let courses = sections::courses(file).count;
-    let deadwood = sections::deadwood(file).count;
-    [
-        ("course count", courses, limits::COURSE_COUNT),
-        ("deadwood count", deadwood, limits::DEADWOOD_COUNT),
-    ]
-    .into_iter()
-    .find(|&(_, count, limits)| !limits.allow(count))
-    .map(|(name, count, limits)| outside(name, &count.to_string(), limits))
-}
-
-/// Refusal 3: courses outside the file, else an overlap, else deadwood outside
-/// the file.
-fn bad_section(file: &[u8]) -> Option<String> {
-    let courses = sections::courses(file);
-    let deadwood = sections::deadwood(file);
-    if !courses.well_placed(file.len()) {
-        Some(section_outside("courses", courses, file.len()))
-    } else if courses.overlaps(deadwood) {
+fn bad_count(file: &[u8], format: Format) -> Option<String> {
+    let headed = sections::headed(file, format);
+    let limited = [
+        ("course count", headed.courses.count, limits::COURSE_COUNT),
+        (
+            "deadwood count",
+            headed.deadwood.count,
+            limits::DEADWOOD_COUNT,
+        ),
+    ];
+    let outside_limits = limited
+        .into_iter()
+        .find(|&(_, count, limits)| !limits.allow(count))
+        .map(|(name, count, limits)| outside(name, &count.to_string(), limits));
+    outside_limits.or_else(|| {
+        let seams = headed.seams.filter(|_| !headed.sound_seam_count())?;
         Some(format!(
-            "byte offset of the deadwood {}: its {} records must not overlap the courses",
-            deadwood.offset, deadwood.count
+            "seam count {}: must be {}, the course count",
+            seams.count, headed.courses.count
         ))
-    } else if !deadwood.well_placed(file.len()) {
-        Some(section_outside("deadwood", deadwood, file.len()))
-    } else {
-        None
-    }
+    })
 }
 
-fn section_outside(name: &str, section: Section, bytes: usize) -> String {
+/// Refusal 3: the first fault in an order of their own, which tells an overlap
+/// with a section before it tells that the other one is outside the file.
+fn bad_section(file: &[u8], format: Format) -> Option<String> {
+    let headed = sections::headed(file, format);
+    let courses = ("courses", headed.courses);
+    let deadwood = ("deadwood", headed.deadwood);
+    let outside = |(name, section): (&str, Section)| {
+        let bad = !section.well_placed(file.len(), format);
+        bad.then(|| section_outside(name, section, file.len(), format))
+    };
+    let overlap = |(name, section): (&str, Section), (other_name, other): (&str, Section)| {
+        section.overlaps(other).then(|| {
+            format!(
+                "byte offset of the {name} {}: its {} records must not overlap the {other_name}",
+                section.offset, section.count
+            )
+        })
+    };
+    let seams = headed.seams.map(|seams| ("seams", seams));
+    outside(courses)
+        .or_else(|| overlap(deadwood, courses))
+        .or_else(|| overlap(seams?, courses))
+        .or_else(|| outside(deadwood))
+        .or_else(|| overlap(seams?, deadwood))
+        .or_else(|| outside(seams?))
+}
+
+fn section_outside(name: &str, section: Section, bytes: usize, format: Format) -> String {
     format!(
         "byte offset of the {name} {}: its {} records must start at byte {} or later and end \
          inside the file of {bytes} bytes",
         section.offset,
         section.count,
-        limits::HEADER_BYTES
+        format.header_bytes()
     )
 }
 
-/// Refusal 5: the number at a place in the header, a course or a deadwood
-/// item.
-fn bad_number(file: &[u8], place: usize) -> Option<String> {
-    let sections = sections::find(file).ok()?;
+/// Refusal 5: the number at a place in the header, a course, a deadwood item or
+/// a course's seams.
+fn bad_number(file: &[u8], format: Format, place: usize) -> Option<String> {
+    let sections = sections::find(file, format).ok()?;
     in_header(file, place)
-        .or_else(|| in_courses(file, &sections.courses, place))
+        .or_else(|| in_courses(file, &sections, place))
         .or_else(|| in_deadwood(file, &sections.deadwood, place))
+        .or_else(|| in_seams(file, &sections.seams, place))
 }
 
 fn in_header(file: &[u8], place: usize) -> Option<String> {
@@ -126,10 +148,19 @@ fn in_header(file: &[u8], place: usize) -> Option<String> {
     }
 }
 
-fn in_courses(file: &[u8], offsets: &[usize], place: usize) -> Option<String> {
-    (1..).zip(offsets).find_map(|(count, &at)| {
+/// A reading that is itself inside its limits is refused for what is left of it
+/// once it is corrected.
+fn in_courses(file: &[u8], sections: &Sections, place: usize) -> Option<String> {
+    (0..).zip(&sections.courses).find_map(|(index, &at)| {
         let number = at_place(&course_numbers(at), place)?;
-        Some(format!("course {count}, {}", length_outside(file, number)))
+        let told = if number.limits.allow(unsigned_at(file, place)) {
+            let corrected = corrected_at(file, place, *sections.seams.get(index)?);
+            let name = format!("{} less the tape rise over its seams", number.name);
+            outside(&name, &length(corrected), number.limits)
+        } else {
+            length_outside(file, number)
+        };
+        Some(format!("course {}, {told}", index + 1))
     })
 }
 
@@ -140,7 +171,7 @@ fn in_deadwood(file: &[u8], offsets: &[usize], place: usize) -> Option<String> {
                 "deadwood item {count}, high height {}: must be above its low height and at most \
                  DH {}",
                 length(unsigned_at(file, place)),
-                unsigned_at(file, 4)
+                unsigned_at(file, DH_AT)
             ))
         } else if place == at + 8 {
             let most = limits::DEADWOOD_VOLUME;
@@ -155,28 +186,40 @@ fn in_deadwood(file: &[u8], offsets: &[usize], place: usize) -> Option<String> {
     })
 }
 
+/// The number of seams is no length: it is told without mm.
+fn in_seams(file: &[u8], offsets: &[usize], place: usize) -> Option<String> {
+    (1..).zip(offsets).find_map(|(count, &at)| {
+        let number = at_place(&seam_numbers(at), place)?;
+        let told = if place == at {
+            let seams = unsigned_at(file, place).to_string();
+            outside(number.name, &seams, number.limits)
+        } else {
+            length_outside(file, number)
+        };
+        Some(format!("seams of course {count}, {told}"))
+    })
+}
+
 fn at_place(numbers: &[Number], place: usize) -> Option<Number> {
     numbers.iter().copied().find(|number| number.at == place)
 }
 
 /// Refusal 6.
-fn bad_lengths(file: &[u8]) -> Option<String> {
-    let survey = parse_numbers(file).ok()?;
+fn bad_lengths(survey: &Survey) -> Option<String> {
     let sum = length(sum_of_lengths(&survey.courses));
     Some(format!(
         "{}, the shell length L1 give or take {} for each course",
-        outside("sum of the course lengths", &sum, accepted_sums(&survey)),
+        outside("sum of the course lengths", &sum, accepted_sums(survey)),
         limits::ALLOWANCE_FOR_A_COURSE
     ))
 }
 
 /// Refusal 7: D1 where that is wrong, else D2.
-fn bad_diameter(file: &[u8]) -> Option<String> {
-    let survey = parse(file).ok()?;
+fn bad_diameter(survey: &Survey) -> Option<String> {
     let dh = survey.dh;
     let (name, diameter) = [
-        ("shell diameter D1", d1(&survey)),
-        ("head diameter D2", d2(&survey)),
+        ("shell diameter D1", d1(survey)),
+        ("head diameter D2", d2(survey)),
     ]
     .into_iter()
     .find(|&(_, diameter)| accepted_diameter(diameter, dh).is_none())?;
@@ -188,9 +231,8 @@ fn bad_diameter(file: &[u8]) -> Option<String> {
 }
 
 /// Refusal 14.
-fn long_cap(file: &[u8]) -> Option<String> {
-    let survey = parse(file).ok()?;
-    let d2 = accepted_diameter(d2(&survey), survey.dh)?;
+fn long_cap(survey: &Survey) -> Option<String> {
+    let d2 = accepted_diameter(d2(survey), survey.dh)?;
     Some(format!(
         "head length L3 {}: must be at most {} for spherical caps, half the head diameter D2 {d2}",
         length(survey.l3),
@@ -199,8 +241,7 @@ fn long_cap(file: &[u8]) -> Option<String> {
 }
 
 /// Refusal 9: the row of an index.
-fn falling_row(file: &[u8], index: usize) -> Option<String> {
-    let survey = parse(file).ok()?;
+fn falling_row(survey: &Survey, index: usize) -> Option<String> {
     let height = row_heights(survey.dh, survey.step).get(index)?.0;
     Some(format!(
         "row {index} at dip height {}: must not be below the row before; the deadwood is larger \

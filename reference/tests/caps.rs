@@ -10,6 +10,7 @@ use reference::limits::SPHERICAL_CAP;
 use reference::random::Random;
 use reference::rows::{row_count, MOST_ROWS};
 use reference::survey::parse;
+use reference::Format;
 
 /// What a survey tries, with the refusal that it meets.
 fn tried(survey: &[u8]) -> Vec<Cap> {
@@ -33,7 +34,7 @@ fn caps_of_a_survey() {
         (260_000, vec![]),
         (260_001, vec![]),
     ] {
-        assert_eq!(tried(&paper_survey_headed(2, l3)), wanted, "{l3}");
+        assert_eq!(tried(&PAPER.headed(2, l3)), wanted, "{l3}");
     }
     // D2 50,001.
     for (l3, wanted) in [
@@ -41,18 +42,18 @@ fn caps_of_a_survey() {
         (25_000, vec![Any, LastLevelCutShort]),
         (25_001, vec![OnePastLongest]),
     ] {
-        let mut odd = paper_survey_headed(2, l3);
+        let mut odd = PAPER.headed(2, l3);
         put(&mut odd, 16, 160_227);
         assert_eq!(tried(&odd), wanted, "{l3}");
     }
     // Other kinds, and caps that another refusal turns away.
-    assert_eq!(tried(&paper_survey()), []);
-    assert_eq!(tried(&paper_survey_headed(1, 100)), []);
-    let mut refused = paper_survey_headed(2, 25_001);
+    assert_eq!(tried(&PAPER.survey()), []);
+    assert_eq!(tried(&PAPER.headed(1, 100)), []);
+    let mut refused = PAPER.headed(2, 25_001);
     put(&mut refused, 4, 60_001);
     assert_eq!(outcome(&refused, MOST_ROWS), (7, 0));
     assert_eq!(tried(&refused), []);
-    assert_eq!(Cap::of_survey(&paper_survey_headed(2, 100), 8), []);
+    assert_eq!(Cap::of_survey(&PAPER.headed(2, 100), 8), []);
 }
 
 /// About a third of sound surveys have caps, none of them too long.
@@ -61,8 +62,8 @@ fn sound_caps() {
     let surveys = 1_200;
     let mut caps = 0;
     for number in 0..surveys {
-        let plan = sound(&mut Random::for_case(12, number));
-        if plan.kind == SPHERICAL_CAP {
+        let plan = sound(&mut Random::for_case(12, number), Format::TODAY);
+        if plan.survey.kind == SPHERICAL_CAP {
             caps += 1;
             assert_ne!(outcome(&plan.encode(), 0).0, 14);
         }
@@ -83,7 +84,7 @@ fn generated_caps() {
         for cap in Cap::of_survey(&case.survey, refusal) {
             seen[cap as usize] += 1;
         }
-        let Ok(survey) = parse(&case.survey) else {
+        let Ok(survey) = parse(&case.survey, Format::TODAY) else {
             continue;
         };
         if survey.kind == SPHERICAL_CAP && 2 * i64::from(survey.l3) > d2(&survey) {

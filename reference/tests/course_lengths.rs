@@ -10,6 +10,7 @@ use reference::misses::Miss;
 use reference::random::Random;
 use reference::rows::MOST_ROWS;
 use reference::survey::{parse, sum_of_lengths};
+use reference::Format;
 
 fn refused(survey: &[u8]) -> (u32, u32) {
     outcome(survey, MOST_ROWS)
@@ -37,7 +38,7 @@ fn both_edges_both_ways() {
                 (l1 + allowance, (0, 0)),
                 (l1 + allowance + 1, (6, 0)),
             ] {
-                let survey = paper_survey_of(l1, &lengths(sum, count));
+                let survey = PAPER.with_courses(l1, &lengths(sum, count));
                 assert_eq!(refused(&survey), wanted, "{count} courses, {sum} for {l1}");
             }
         }
@@ -58,43 +59,43 @@ fn any_course_may_miss() {
         ] {
             let mut lengths = each;
             lengths[index] = length;
-            assert_eq!(refused(&paper_survey_of(100_000, &lengths)), wanted);
+            assert_eq!(refused(&PAPER.with_courses(100_000, &lengths)), wanted);
         }
     }
     // One long and one short by far more than the allowance: the sum is L1.
-    let exchanged = paper_survey_of(100_000, &[1, 49_999, 25_000, 25_000]);
+    let exchanged = PAPER.with_courses(100_000, &[1, 49_999, 25_000, 25_000]);
     assert_eq!(refused(&exchanged), (0, 0));
 }
 
 #[test]
 fn the_longest_shell() {
     // A single course ends at the longest shell; a length past its limits is
-    // refusal 5, at byte 48 + 8.
+    // refusal 5, at byte 56 + 8.
     for (length, wanted) in [
         (2_999_899, (6, 0)),
         (2_999_900, (0, 0)),
         (3_000_000, (0, 0)),
-        (3_000_001, (5, 56)),
-        (3_000_100, (5, 56)),
+        (3_000_001, (5, 64)),
+        (3_000_100, (5, 64)),
     ] {
-        assert_eq!(refused(&paper_survey_of(3_000_000, &[length])), wanted);
+        assert_eq!(refused(&PAPER.with_courses(3_000_000, &[length])), wanted);
     }
     // Two courses may be longer together.
     for (second, wanted) in [(199, (6, 0)), (200, (0, 0)), (600, (0, 0)), (601, (6, 0))] {
-        let survey = paper_survey_of(3_000_000, &[2_999_600, second]);
+        let survey = PAPER.with_courses(3_000_000, &[2_999_600, second]);
         assert_eq!(refused(&survey), wanted, "{second}");
     }
-    let survey = paper_survey_of(3_000_000, &[3_000_000, 200]);
+    let survey = PAPER.with_courses(3_000_000, &[3_000_000, 200]);
     assert_eq!(refused(&survey), (0, 0));
 }
 
 #[test]
 fn far_from_l1() {
-    assert_eq!(refused(&paper_survey_of(100_000, &[1])), (6, 0));
-    assert_eq!(refused(&paper_survey_of(3_000_000, &[1; 40])), (6, 0));
+    assert_eq!(refused(&PAPER.with_courses(100_000, &[1])), (6, 0));
+    assert_eq!(refused(&PAPER.with_courses(3_000_000, &[1; 40])), (6, 0));
     let longest = [3_000_000; 40];
-    assert_eq!(refused(&paper_survey_of(100_000, &longest)), (6, 0));
-    assert_eq!(refused(&paper_survey_of(3_000_000, &longest)), (6, 0));
+    assert_eq!(refused(&PAPER.with_courses(100_000, &longest)), (6, 0));
+    assert_eq!(refused(&PAPER.with_courses(3_000_000, &longest)), (6, 0));
 }
 
 /// The paper's example with a course of 99,900 or 100,100.
@@ -110,7 +111,7 @@ fn far_from_l1() {
 #[test]
 fn the_papers_example_with_a_course_that_misses() {
     for length in [99_900, 99_999, 100_001, 100_100] {
-        let table = make_table(&paper_survey_but(56, length), 6).unwrap();
+        let table = make_table(&PAPER.but(COURSE + 8, length), 6).unwrap();
         assert_eq!((table.d1, table.d2), (50_000, 50_000));
         assert_eq!(table.rows, [0, 2_796, 7_334, 12_301, 16_839, 19_635]);
     }
@@ -149,16 +150,16 @@ fn the_shell_is_as_long_as_l1() {
 
 /// The paper's survey with a course of 60,000 and a wider one of this length.
 fn two_courses(l1: u32, second: u32) -> Vec<u8> {
-    let mut survey = paper_survey_of(l1, &[60_000, second]);
-    put(&mut survey, 64, 163_363);
-    put(&mut survey, 68, 163_363);
+    let mut survey = PAPER.with_courses(l1, &[60_000, second]);
+    put(&mut survey, COURSE + 16, 163_363);
+    put(&mut survey, COURSE + 20, 163_363);
     survey
 }
 
 /// What the comparison counts, at each edge.
 #[test]
 fn misses_of_a_survey() {
-    let miss = |lengths: &[u32]| Miss::of_survey(&paper_survey_of(100_000, lengths));
+    let miss = |lengths: &[u32]| Miss::of_survey(&PAPER.with_courses(100_000, lengths));
     for (first, wanted) in [
         (49_000, None),
         (49_798, None),
@@ -186,10 +187,10 @@ fn misses_of_a_survey() {
         assert_eq!(miss(&[length]), wanted, "{length}");
     }
     // Files that refusals 1 to 5 turn away, and one that 7 does.
-    assert_eq!(Miss::of_survey(&paper_survey()[..47]), None);
-    assert_eq!(Miss::of_survey(&paper_survey_but(28, 99)), None);
+    assert_eq!(Miss::of_survey(&PAPER.survey()[..55]), None);
+    assert_eq!(Miss::of_survey(&PAPER.but(28, 99)), None);
     assert_eq!(
-        Miss::of_survey(&paper_survey_but(60, 5_000)),
+        Miss::of_survey(&PAPER.but(COURSE + 12, 5_000)),
         Some(Miss::None)
     );
 }
@@ -201,8 +202,8 @@ fn sound_surveys_that_miss() {
     let mut missing = 0;
     let mut at_allowance = [[0; 2]; 3]; // one course, several, 40; short and long
     for number in 0..surveys {
-        let plan = sound(&mut Random::for_case(7, number));
-        let survey = parse(&plan.encode()).expect("a sound survey");
+        let plan = sound(&mut Random::for_case(7, number), Format::TODAY);
+        let survey = parse(&plan.encode(), Format::TODAY).expect("a sound survey");
         let sum = sum_of_lengths(&survey.courses);
         let count = survey.courses.len();
         missing += u64::from(sum != survey.l1);
@@ -236,7 +237,7 @@ fn generated_misses() {
         if let Some(miss) = Miss::of_survey(&survey) {
             seen[miss as usize] += 1;
         }
-        if let Ok(survey) = parse(&survey) {
+        if let Ok(survey) = parse(&survey, Format::TODAY) {
             let difference = sum_of_lengths(&survey.courses).abs_diff(survey.l1);
             past_one_course += u32::from(difference == 101);
         }

@@ -258,7 +258,7 @@ fn rows_of_a_table() {
     for (right, d2) in [(160_221, 50_000), (160_227, 50_001)] {
         for l3 in [1, 99, 100, 101, 2_500, 12_345, 24_999, 25_000] {
             let [flat, caps] = [(0, 0), (2, l3)].map(|(kind, l3)| {
-                let mut file = paper_survey_headed(kind, l3);
+                let mut file = PAPER.headed(kind, l3);
                 put(&mut file, 16, right);
                 put(&mut file, 28, 1_234);
                 make_table(&file, 1_000).unwrap()
@@ -277,9 +277,9 @@ fn rows_of_a_table() {
 /// The last level of D2 = 50,450 is 50 high; DH 50,450 reaches to its end.
 #[test]
 fn a_full_table_with_a_level_cut_short() {
-    let mut file = paper_survey_headed(2, 3_333);
+    let mut file = PAPER.headed(2, 3_333);
     let half = |outer: u32| (710 * outer / 113).div_ceil(2);
-    for at in [12, 16, 48, 52] {
+    for at in [12, 16, COURSE, COURSE + 4] {
         put(&mut file, at, half(51_450));
     }
     put(&mut file, 4, 50_450);

@@ -11,6 +11,7 @@ use reference::rows::{row_count, row_heights, MOST_ROWS};
 use reference::survey::parse;
 use reference::text::{hundredths, signed_decimals, two_decimals, with_commas};
 use reference::volumes::{chord, doubled_area, doubled_areas};
+use reference::Format;
 use reference::{fill_table, make_table};
 
 const UNTOUCHED: u32 = 0xdead_beef;
@@ -47,7 +48,7 @@ fn answers_and_lent_memory() {
                 assert_eq!((answer.d1, answer.d2, answer.rows), (0, 0, 0));
                 assert!(lent.iter().all(|&cell| cell == UNTOUCHED));
                 if refusal.number == 9 {
-                    let survey = parse(&case.survey).unwrap();
+                    let survey = parse(&case.survey, Format::TODAY).unwrap();
                     let last = row_count(survey.dh, survey.step) as u32 - 1;
                     assert!(1 <= refusal.place && refusal.place <= last);
                     falls[match refusal.place {
@@ -76,7 +77,7 @@ fn accepted_rows() {
         let Ok(table) = make_table(&case.survey, case.table_len) else {
             continue;
         };
-        let survey = parse(&case.survey).unwrap();
+        let survey = parse(&case.survey, Format::TODAY).unwrap();
         let dimensions = dimensions(&survey).unwrap();
         let tank = Tank::new(&survey, dimensions);
         let heights = row_heights(survey.dh, survey.step);
@@ -234,10 +235,10 @@ fn layout_does_not_matter() {
     use reference::generate::sound::{layout, sound};
     for number in 0..200 {
         let mut random = Random::for_case(8, number);
-        let mut plan = sound(&mut random);
+        let mut plan = sound(&mut random, Format::TODAY);
         let first = make_table(&plan.encode(), MOST_ROWS);
         plan.layout = layout(&mut random, &plan);
-        plan.layout.deadwood_first = !plan.layout.deadwood_first;
+        plan.layout.order.rotate_left(1);
         assert_eq!(first, make_table(&plan.encode(), MOST_ROWS));
     }
 }
@@ -250,12 +251,14 @@ fn diameters_at_their_limits() {
     let mut sizes = [Vec::new(), Vec::new()];
     let mut distances = [Vec::new(), Vec::new()];
     for number in 0..2_000 {
-        let plan = at_limits(&mut Random::for_case(10, number));
-        let d1 = shell_outer_diameter(&plan.courses) - wall(&plan.courses);
-        let d2 = end_outer_diameter(plan.left, plan.right) - wall(&plan.courses);
+        let plan = at_limits(&mut Random::for_case(10, number), Format::TODAY);
+        let d1 =
+            shell_outer_diameter(&plan.survey.corrected_courses()) - wall(&plan.survey.courses);
+        let d2 =
+            end_outer_diameter(plan.survey.left, plan.survey.right) - wall(&plan.survey.courses);
         for (which, diameter) in [d1, d2].into_iter().enumerate() {
             sizes[which].push(diameter);
-            distances[which].push(diameter - i64::from(plan.dh));
+            distances[which].push(diameter - i64::from(plan.survey.dh));
         }
     }
     for which in 0..2 {

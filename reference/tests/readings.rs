@@ -12,8 +12,6 @@ use reference::rows::{row_count, row_heights, MOST_ROWS};
 use reference::survey::Course;
 use reference::volumes::{chord, heads};
 use reference::{height_for_volume, litres_at_height, make_table};
-use std::io::Write;
-use std::process::{Command, Stdio};
 
 const PRINTED: &str = "rows 6
 0.00 0.00
@@ -81,29 +79,29 @@ fn row_counts() {
 
 #[test]
 fn refusals() {
-    assert_eq!(outcome(&paper_survey_but(4, 49_999), MOST_ROWS), (5, 4));
-    assert_eq!(outcome(&paper_survey()[..47], MOST_ROWS), (1, 0));
+    assert_eq!(outcome(&PAPER.but(4, 49_999), MOST_ROWS), (5, 4));
+    assert_eq!(outcome(&PAPER.survey()[..47], MOST_ROWS), (1, 0));
 }
 
 #[test]
 fn the_printed_table() {
-    assert_eq!(Opened::new(&paper_survey()).table().output, PRINTED);
+    assert_eq!(Opened::new(&PAPER.survey()).table().output, PRINTED);
     assert_eq!(
-        Opened::new(&paper_survey_but(4, 49_999)).table().output,
+        Opened::new(&PAPER.but(4, 49_999)).table().output,
         "refused 5 4\n"
     );
 }
 
 #[test]
 fn the_answer_of_that_table() {
-    let table = make_table(&paper_survey(), 6).unwrap();
+    let table = make_table(&PAPER.survey(), 6).unwrap();
     assert_eq!((table.d1, table.d2), (50_000, 50_000));
     assert_eq!(table.rows, [0, 2_796, 7_334, 12_301, 16_839, 19_635]);
 }
 
 #[test]
 fn lookups_on_that_table() {
-    let table = make_table(&paper_survey(), 6).unwrap();
+    let table = make_table(&PAPER.survey(), 6).unwrap();
     assert_eq!(
         litres_at_height(50_000, 10_000, &table.rows, 5_000),
         Ok(1_398)
@@ -118,48 +116,27 @@ fn lookups_on_that_table() {
 fn the_programs_print_the_same() {
     let table = env!("CARGO_BIN_EXE_reference_table");
     let lookup = env!("CARGO_BIN_EXE_reference_lookup");
-    assert_eq!(output(table, &[], &paper_survey()), PRINTED);
+    assert_eq!(output(table, &[], &PAPER.survey()), PRINTED);
+    assert_eq!(output(table, &[], &PAPER.but(4, 49_999)), "refused 5 4\n");
+    assert_eq!(output(table, &[], &PAPER.survey()[..47]), "refused 1 0\n");
+    for (words, printed) in [
+        (["litres", "50"], "13.98\n"),
+        (["litres", "50.00"], "13.98\n"),
+        (["height", "13.98"], "49.99\n"),
+        (["litres", "500.01"], "refused 12 0\n"),
+        (["height", "196.36"], "refused 13 0\n"),
+    ] {
+        assert_eq!(output(lookup, &words, &PAPER.survey()), printed);
+    }
     assert_eq!(
-        output(table, &[], &paper_survey_but(4, 49_999)),
-        "refused 5 4\n"
-    );
-    assert_eq!(output(table, &[], &paper_survey()[..47]), "refused 1 0\n");
-    assert_eq!(
-        output(lookup, &["litres", "50"], &paper_survey()),
-        "13.98\n"
-    );
-    assert_eq!(
-        output(lookup, &["litres", "50.00"], &paper_survey()),
-        "13.98\n"
-    );
-    assert_eq!(
-        output(lookup, &["height", "13.98"], &paper_survey()),
-        "49.99\n"
-    );
-    assert_eq!(
-        output(lookup, &["litres", "500.01"], &paper_survey()),
-        "refused 12 0\n"
-    );
-    assert_eq!(
-        output(lookup, &["height", "196.36"], &paper_survey()),
-        "refused 13 0\n"
-    );
-    assert_eq!(
-        output(lookup, &["height", "1"], &paper_survey()[..47]),
+        output(lookup, &["height", "1"], &PAPER.survey()[..47]),
         "refused 1 0\n"
     );
 }
 
 /// What a program prints for a survey on its standard input.
 fn output(program: &str, words: &[&str], survey: &[u8]) -> String {
-    let mut child = Command::new(program)
-        .args(words)
-        .stdin(Stdio::piped())
-        .stdout(Stdio::piped())
-        .spawn()
-        .unwrap();
-    child.stdin.take().unwrap().write_all(survey).unwrap();
-    let output = child.wait_with_output().unwrap();
+    let output = run_program(program, words, survey);
     assert!(output.status.success());
     String::from_utf8(output.stdout).unwrap()
 }

@@ -15,6 +15,7 @@ use reference::rows::row_heights;
 use reference::slabs::{condition_holds, tolerance, total, Counts, Slabs};
 use reference::survey::{parse, sum_of_lengths};
 use reference::volumes::CUBIC_U_IN_V;
+use reference::Format;
 
 /// Counts from 1 to some hundreds, often very small.
 fn counts(random: &mut Random) -> Counts {
@@ -45,7 +46,7 @@ fn condition_three_on_generated_surveys() {
         let Ok(table) = make_table(&case.survey, case.table_len) else {
             continue;
         };
-        let survey = parse(&case.survey).unwrap();
+        let survey = parse(&case.survey, Format::TODAY).unwrap();
         if survey.dh > 120_000 || table.rows.len() > 40 {
             continue;
         }

@@ -4,9 +4,7 @@ mod common;
 
 use common::*;
 use reference::printed::{Asked, Opened, Printed};
-use reference::Refusal;
-use std::io::Write;
-use std::process::{Command, Stdio};
+use reference::{Format, Refusal};
 
 /// The sentence for a refused survey.
 fn sentence(survey: &[u8]) -> String {
@@ -17,28 +15,28 @@ fn sentence(survey: &[u8]) -> String {
 
 #[track_caller]
 fn but(at: usize, word: u32, expected: &str) {
-    assert_eq!(sentence(&paper_survey_but(at, word)), expected);
+    assert_eq!(sentence(&PAPER.but(at, word)), expected);
 }
 
 #[track_caller]
 fn with_deadwood(deadwood: &[(u32, u32, i32)], expected: &str) {
-    assert_eq!(sentence(&paper_survey_with(deadwood)), expected);
+    assert_eq!(sentence(&PAPER.with_deadwood(deadwood)), expected);
 }
 
 #[test]
 fn file_lengths() {
-    let file = paper_survey();
-    assert_eq!(sentence(&[]), "file of 0 bytes: must have 48 to 65536");
+    let file = PAPER.survey();
+    assert_eq!(sentence(&[]), "file of 0 bytes: must have 56 to 65536");
     assert_eq!(
-        sentence(&file[..47]),
-        "file of 47 bytes: must have 48 to 65536"
+        sentence(&file[..55]),
+        "file of 55 bytes: must have 56 to 65536"
     );
     for length in [65_537, 70_000] {
         let mut long = file.clone();
         long.resize(length, 0);
         assert_eq!(
             sentence(&long),
-            "file of more than 65536 bytes: must have 48 to 65536"
+            "file of more than 65536 bytes: must have 56 to 65536"
         );
     }
 }
@@ -53,67 +51,119 @@ fn counts() {
     );
     but(40, 65, "deadwood count 65: must be 0 to 64");
     // Both wrong: the first.
-    let mut file = paper_survey_but(40, 65);
+    let mut file = PAPER.but(40, 65);
     put(&mut file, 32, 41);
     assert_eq!(sentence(&file), "course count 41: must be 1 to 40");
+    // Deadwood before seams, and seams where the others are sound.
+    put(&mut file, 32, 40);
+    assert_eq!(sentence(&file), "deadwood count 65: must be 0 to 64");
+    put(&mut file, 40, 64);
+    assert_eq!(
+        sentence(&file),
+        "seam count 1: must be 40, the course count"
+    );
+    but(48, 0, "seam count 0: must be 1, the course count");
+    but(
+        48,
+        u32::MAX,
+        "seam count 4294967295: must be 1, the course count",
+    );
 }
 
 #[test]
 fn sections() {
-    let courses = "its 1 records must start at byte 48 or later and end inside the file of";
-    but(
-        36,
-        47,
-        &format!("byte offset of the courses 47: {courses} 64 bytes"),
-    );
-    but(
-        36,
-        49,
-        &format!("byte offset of the courses 49: {courses} 64 bytes"),
-    );
-    but(
-        36,
-        u32::MAX,
-        &format!("byte offset of the courses 4294967295: {courses} 64 bytes"),
-    );
+    let courses = "its 1 records must start at byte 56 or later and end inside the file of";
+    for offset in [47, 55, 69, u32::MAX] {
+        but(
+            36,
+            offset,
+            &format!("byte offset of the courses {offset}: {courses} 84 bytes"),
+        );
+    }
     assert_eq!(
-        sentence(&paper_survey()[..48]),
-        format!("byte offset of the courses 48: {courses} 48 bytes")
+        sentence(&PAPER.survey()[..56]),
+        format!("byte offset of the courses 56: {courses} 56 bytes")
     );
 
-    let two = paper_survey_with(&[(0, 50_000, 1), (0, 50_000, 1)]);
+    let two = PAPER.with_deadwood(&[(0, 50_000, 1), (0, 50_000, 1)]);
     let moved = |offset| {
         let mut file = two.clone();
         put(&mut file, 44, offset);
         sentence(&file)
     };
     let deadwood =
-        "its 2 records must start at byte 48 or later and end inside the file of 88 bytes";
+        "its 2 records must start at byte 56 or later and end inside the file of 108 bytes";
     assert_eq!(
-        moved(65),
-        format!("byte offset of the deadwood 65: {deadwood}")
+        moved(85),
+        format!("byte offset of the deadwood 85: {deadwood}")
     );
     assert_eq!(
-        moved(24),
-        format!("byte offset of the deadwood 24: {deadwood}")
+        moved(32),
+        format!("byte offset of the deadwood 32: {deadwood}")
     );
     assert_eq!(
-        moved(63),
-        "byte offset of the deadwood 63: its 2 records must not overlap the courses"
+        moved(71),
+        "byte offset of the deadwood 71: its 2 records must not overlap the courses"
     );
     // Inside the header and over the courses: the overlap is told.
     assert_eq!(
-        moved(25),
-        "byte offset of the deadwood 25: its 2 records must not overlap the courses"
+        moved(33),
+        "byte offset of the deadwood 33: its 2 records must not overlap the courses"
     );
-    // Both sections outside: the courses are told.
-    let mut both = two.clone();
-    put(&mut both, 36, 0);
-    put(&mut both, 44, 0);
+    // All sections outside: the courses are told.
+    let mut all = two.clone();
+    for at in [36, 44, 52] {
+        put(&mut all, at, 0);
+    }
     assert_eq!(
-        sentence(&both),
-        "byte offset of the courses 0: its 1 records must start at byte 48 or later and end \
-         inside the file of 88 bytes"
+        sentence(&all),
+        "byte offset of the courses 0: its 1 records must start at byte 56 or later and end \
+         inside the file of 108 bytes"
+    );
+}
+
+/// The sentences on the seams' place, and which fault is told of several.
+#[test]
+fn seam_sections() {
+    let outside = |offset: u32, bytes: usize| {
+        format!(
+            "byte offset of the seams {offset}: its 1 records must start at byte 56 or later and \
+             end inside the file of {bytes} bytes"
+        )
+    };
+    let over = |offset: u32, other: &str| {
+        format!("byte offset of the seams {offset}: its 1 records must not overlap the {other}")
+    };
+    for offset in [0, 44, 73, 84, u32::MAX] {
+        but(52, offset, &outside(offset, 84));
+    }
+    for offset in [45, 55, 56, 60, 71] {
+        but(52, offset, &over(offset, "courses"));
+    }
+
+    // Deadwood at 84 to 96: the seams over it, also where they end outside.
+    let file = PAPER.with_deadwood(&[(0, 50_000, 1)]);
+    let moved = |seams, deadwood| {
+        let mut file = file.clone();
+        put(&mut file, 52, seams);
+        put(&mut file, 44, deadwood);
+        sentence(&file)
+    };
+    for seams in [73, 83, 84, 95] {
+        assert_eq!(moved(seams, 84), over(seams, "deadwood"));
+    }
+    assert_eq!(moved(96, 84), outside(96, 96));
+    // Seams over the courses are told before deadwood outside the file; that
+    // before seams over the deadwood, and before seams outside.
+    assert_eq!(moved(71, 85), over(71, "courses"));
+    let deadwood_outside = "byte offset of the deadwood 85: its 1 records must start at byte 56 \
+                            or later and end inside the file of 96 bytes";
+    assert_eq!(moved(84, 85), deadwood_outside);
+    assert_eq!(moved(0, 85), deadwood_outside);
+    // Deadwood over the courses is told before seams over either.
+    assert_eq!(
+        moved(60, 60),
+        "byte offset of the deadwood 60: its 1 records must not overlap the courses"
     );
 }
 
@@ -175,32 +225,99 @@ fn header_numbers() {
 #[test]
 fn course_numbers() {
     but(
-        48,
+        COURSE,
         149_999,
         "course 1, first circumference 149999 (1,499.99 mm): must be 150000 to 1600000",
     );
     but(
-        52,
+        COURSE + 4,
         0,
         "course 1, second circumference 0 (0.00 mm): must be 150000 to 1600000",
     );
-    but(56, 0, "course 1, length 0 (0.00 mm): must be 1 to 3000000");
     but(
-        60,
+        COURSE + 8,
+        0,
+        "course 1, length 0 (0.00 mm): must be 1 to 3000000",
+    );
+    but(
+        COURSE + 12,
         5_001,
         "course 1, thickness 5001 (50.01 mm): must be 100 to 5000",
     );
 
     // Three courses at an odd offset, the last of them wrong.
-    let mut file = bytes_of(&PAPER_HEADER);
-    put(&mut file, 32, 3);
-    put(&mut file, 36, 49);
-    file.push(7);
-    file.extend(bytes_of(&[160_221, 160_221, 50_000, 500]).repeat(3));
-    put(&mut file, 49 + 2 * 16 + 12, 99);
+    let mut file = PAPER.of(&[
+        Piece::Gap(&[7]),
+        Piece::Courses(&[[160_221, 160_221, 50_000, 500]; 3]),
+        Piece::Seams(&[NO_SEAMS; 3]),
+    ]);
+    put(&mut file, 57 + 2 * 16 + 12, 99);
     assert_eq!(
         sentence(&file),
         "course 3, thickness 99 (0.99 mm): must be 100 to 5000"
+    );
+}
+
+#[test]
+fn seam_numbers() {
+    but(SEAMS, 13, "seams of course 1, number 13: must be 0 to 12");
+    but(
+        SEAMS,
+        u32::MAX,
+        "seams of course 1, number 4294967295: must be 0 to 12",
+    );
+    but(
+        SEAMS + 4,
+        1_001,
+        "seams of course 1, thickness 1001 (10.01 mm): must be 0 to 1000",
+    );
+    but(
+        SEAMS + 8,
+        5_001,
+        "seams of course 1, width 5001 (50.01 mm): must be 0 to 5000",
+    );
+    let mut file = PAPER.with_courses(100_000, &[25_000; 4]);
+    put(&mut file, COURSE + 4 * 16 + 3 * 12 + 8, 123_456_789);
+    assert_eq!(
+        sentence(&file),
+        "seams of course 4, width 123456789 (1,234,567.89 mm): must be 0 to 5000"
+    );
+}
+
+/// A reading that is inside its limits until it loses the rise of 305.
+#[test]
+fn corrected_readings() {
+    let mut file = PAPER.seamed(4, 300, 1_200);
+    put(&mut file, COURSE, 150_304);
+    assert_eq!(
+        sentence(&file),
+        "course 1, first circumference less the tape rise over its seams 149999 (1,499.99 mm): \
+         must be 150000 to 1600000"
+    );
+    put(&mut file, COURSE, 149_999);
+    assert_eq!(
+        sentence(&file),
+        "course 1, first circumference 149999 (1,499.99 mm): must be 150000 to 1600000"
+    );
+    put(&mut file, COURSE, 150_305);
+    put(&mut file, COURSE + 4, 150_000);
+    assert_eq!(
+        sentence(&file),
+        "course 1, second circumference less the tape rise over its seams 149695 (1,496.95 mm): \
+         must be 150000 to 1600000"
+    );
+    // Of several courses the one with seams.
+    let mut file = PAPER.with_courses(100_000, &[25_000; 4]);
+    let seams = COURSE + 4 * 16;
+    for (at, word) in [(0, 12), (4, 1_000), (8, 5_000)] {
+        put(&mut file, seams + 2 * 12 + at, word);
+    }
+    put(&mut file, COURSE + 4, 150_000);
+    put(&mut file, COURSE + 2 * 16 + 4, 150_000);
+    assert_eq!(
+        sentence(&file),
+        "course 3, second circumference less the tape rise over its seams 143075 (1,430.75 mm): \
+         must be 150000 to 1600000"
     );
 }
 
@@ -232,19 +349,19 @@ fn deadwood_numbers() {
 #[test]
 fn lengths() {
     assert_eq!(
-        sentence(&paper_survey_of(100_000, &[25_000; 3])),
+        sentence(&PAPER.with_courses(100_000, &[25_000; 3])),
         "sum of the course lengths 75000 (750.00 mm): must be 99700 to 100300, the shell length \
          L1 give or take 100 for each course"
     );
     but(
-        56,
+        COURSE + 8,
         99_899,
         "sum of the course lengths 99899 (998.99 mm): must be 99900 to 100100, the shell length \
          L1 give or take 100 for each course",
     );
     // The largest sum there is.
     assert_eq!(
-        sentence(&paper_survey_of(3_000_000, &[3_000_000; 40])),
+        sentence(&PAPER.with_courses(3_000_000, &[3_000_000; 40])),
         "sum of the course lengths 120000000 (1,200,000.00 mm): must be 2996000 to 3004000, the \
          shell length L1 give or take 100 for each course"
     );
@@ -261,12 +378,12 @@ fn diameters() {
 #[test]
 fn long_caps() {
     assert_eq!(
-        sentence(&paper_survey_headed(2, 25_001)),
+        sentence(&PAPER.headed(2, 25_001)),
         "head length L3 25001 (250.01 mm): must be at most 25000 for spherical caps, half the \
          head diameter D2 50000"
     );
     // An odd D2: half of it is rounded down.
-    let mut odd = paper_survey_headed(2, 260_000);
+    let mut odd = PAPER.headed(2, 260_000);
     put(&mut odd, 16, 160_227);
     assert_eq!(
         sentence(&odd),
@@ -290,7 +407,7 @@ fn falling_rows() {
          the deadwood is larger than the room there",
     );
     // The last row stands at DH, no whole step up.
-    let mut file = paper_survey_with(&[(49_995, 50_000, 10_000)]);
+    let mut file = PAPER.with_deadwood(&[(49_995, 50_000, 10_000)]);
     put(&mut file, 28, 9_999);
     assert_eq!(
         sentence(&file),
@@ -304,13 +421,16 @@ fn falling_rows() {
 fn no_sentence() {
     for number in [8, 10, 11] {
         let refusal = Refusal { number, place: 0 };
-        assert_eq!(reference::words::of_survey(&paper_survey(), refusal), None);
+        assert_eq!(
+            reference::words::of_survey(&PAPER.survey(), Format::TODAY, refusal),
+            None
+        );
         assert_eq!(reference::words::of_lookup(0, refusal, 50_000, 0), None);
     }
 }
 
 const TOO_HIGH: &str = "dip height 50001 (500.01 mm): must be at most DH 50000\n";
-const SHORT: &str = "file of 47 bytes: must have 48 to 65536\n";
+const SHORT: &str = "file of 47 bytes: must have 56 to 65536\n";
 
 fn printed(output: &str, error: &str) -> Printed {
     Printed {
@@ -321,7 +441,7 @@ fn printed(output: &str, error: &str) -> Printed {
 
 #[test]
 fn a_line_for_each_figure() {
-    let survey = paper_survey();
+    let survey = PAPER.survey();
     let opened = Opened::new(&survey);
     assert_eq!(
         opened.lookup(&Asked::LitresAt(vec![5_000, 50_001, 50_000])),
@@ -351,7 +471,7 @@ fn a_line_for_each_figure() {
 
 #[test]
 fn delivered() {
-    let survey = paper_survey();
+    let survey = PAPER.survey();
     let opened = Opened::new(&survey);
     for (before, after, output, error) in [
         (0, 5_000, "+13.98\n", ""),
@@ -372,7 +492,7 @@ fn delivered() {
 fn the_programs() {
     let table = env!("CARGO_BIN_EXE_reference_table");
     let lookup = env!("CARGO_BIN_EXE_reference_lookup");
-    let survey = paper_survey();
+    let survey = PAPER.survey();
     assert_eq!(run(table, &[], &survey).error, "");
     assert_eq!(
         run(table, &[], &survey[..47]),
@@ -399,15 +519,7 @@ fn the_programs() {
 
 /// What a program prints for a survey on its standard input.
 fn run(program: &str, words: &[&str], survey: &[u8]) -> Printed {
-    let mut child = Command::new(program)
-        .args(words)
-        .stdin(Stdio::piped())
-        .stdout(Stdio::piped())
-        .stderr(Stdio::piped())
-        .spawn()
-        .unwrap();
-    child.stdin.take().unwrap().write_all(survey).unwrap();
-    let output = child.wait_with_output().unwrap();
+    let output = run_program(program, words, survey);
     assert!(output.status.success());
     printed(
         &String::from_utf8(output.stdout).unwrap(),

@@ -9,7 +9,9 @@ int main(void)
     table_checks();
     lookup_checks();
     words_checks();
+    convert_checks();
     thread_checks();
+    stack_checks();
     printf("%u checks, %u failed\n", checks(), failures());
     return failures() == 0 ? 0 : 1;
 }

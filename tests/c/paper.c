@@ -8,13 +8,33 @@ void put(uint8_t *survey, size_t at, uint32_t number)
         survey[at + i] = (uint8_t)(number >> (8 * i));
 }
 
+uint32_t number_at(const uint8_t *survey, size_t at)
+{
+    uint32_t number = 0;
+    for (size_t i = 0; i < 4; i++)
+        number |= (uint32_t)survey[at + i] << (8 * i);
+    return number;
+}
+
 void paper_survey(uint8_t *survey)
 {
     static const uint32_t words[PAPER_BYTES / 4] = {
         0, PAPER_DH, 100000, 160221, 160221, 0, 0, PAPER_STEP, /* the tank */
+        1, FIRST_AT, 0, 0, 1, SEAMS_AT,                        /* one course, no deadwood, one record of seams */
+        160221, 160221, 100000, 500,                           /* the course */
+        0, 0, 0,                                               /* its seams: none */
+    };
+    for (size_t i = 0; i < PAPER_BYTES / 4; i++)
+        put(survey, 4 * i, words[i]);
+}
+
+void old_paper_survey(uint8_t *survey)
+{
+    static const uint32_t words[OLD_PAPER_BYTES / 4] = {
+        0, PAPER_DH, 100000, 160221, 160221, 0, 0, PAPER_STEP, /* the tank */
         1, 48, 0, 0,                                           /* one course, no deadwood */
         160221, 160221, 100000, 500,                           /* the course */
     };
-    for (size_t i = 0; i < PAPER_BYTES / 4; i++)
+    for (size_t i = 0; i < OLD_PAPER_BYTES / 4; i++)
         put(survey, 4 * i, words[i]);
 }

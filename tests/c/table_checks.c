@@ -50,7 +50,7 @@ static void refused_with(size_t at, uint32_t number, uint32_t refusal, uint32_t 
     refused(survey, PAPER_BYTES, refusal, place, what);
 }
 
-/* The paper's survey with one deadwood item behind the course, at byte 64. */
+/* The paper's survey with one deadwood item behind the seams, at byte 84. */
 static void with_deadwood(uint8_t *survey, uint32_t low, uint32_t high, int32_t volume)
 {
     paper_survey(survey);
@@ -69,12 +69,24 @@ static void with_caps(uint8_t *survey, uint32_t length)
     put(survey, 24, length);
 }
 
+/* The paper's survey with other readings of its course, and three seams over which the tape rises by 130: the nearest of
+ * 2*3*200*1200/50000 = 28.8, and 101, the root of 64*3*3*200*200*200/(9*50000) = 10240. */
+static void with_seams(uint8_t *survey, uint32_t first, uint32_t second)
+{
+    paper_survey(survey);
+    put(survey, FIRST_AT, first);
+    put(survey, SECOND_AT, second);
+    put(survey, SEAMS_AT, 3);
+    put(survey, SEAMS_AT + 4, 200);
+    put(survey, SEAMS_AT + 8, 1200);
+}
+
 /* The paper's survey with a course that misses L1 by no more than it may: D1 goes by the course's length, the rows by L1. */
 static void missing_course(uint32_t length, const char *what)
 {
     uint8_t survey[PAPER_BYTES];
     paper_survey(survey);
-    put(survey, 56, length);
+    put(survey, LENGTH_AT, length);
     uint32_t *cells = lent_cells(PAPER_ROWS);
     struct milechime_table_answer a =
         milechime_table(lent_bytes(survey, PAPER_BYTES), PAPER_BYTES, cells, PAPER_ROWS);
@@ -105,6 +117,15 @@ static void accepted_surveys(void)
     a = milechime_table(lent_bytes(survey, PAPER_BYTES), PAPER_BYTES, lent_cells(PAPER_ROWS), PAPER_ROWS);
     check(answers(a, 0, 0, 50000, 50000, PAPER_ROWS), "caps half as long as D2 are accepted");
 
+    with_seams(survey, 160221 + 130, 160221 + 130);
+    cells = lent_cells(PAPER_ROWS);
+    a = milechime_table(lent_bytes(survey, PAPER_BYTES), PAPER_BYTES, cells, PAPER_ROWS);
+    check(answers(a, 0, 0, 50000, 50000, PAPER_ROWS) && holds_the_paper_rows(cells),
+          "readings that are long by the tape's rise over three seams: the same D1 and D2, and the paper's rows");
+    with_seams(survey, 160221, 160221);
+    a = milechime_table(lent_bytes(survey, PAPER_BYTES), PAPER_BYTES, lent_cells(PAPER_ROWS), PAPER_ROWS);
+    check(answers(a, 7, 0, 0, 0, 0), "readings that are not long but have seams: D1 is too small, refusal 7");
+
     with_deadwood(survey, 10000, 30000, 1000);
     cells = lent_cells(PAPER_ROWS);
     a = milechime_table(lent_bytes(survey, ITEM_BYTES), ITEM_BYTES, cells, PAPER_ROWS);
@@ -120,8 +141,9 @@ static void refused_surveys(void)
     uint8_t survey[PAPER_BYTES];
     paper_survey(survey);
     refused(survey, 0, 1, 0, "no byte: refusal 1");
-    refused(survey, 47, 1, 0, "47 bytes: refusal 1");
-    refused(survey, 48, 3, 0, "48 bytes, the course outside: refusal 3");
+    refused(survey, 55, 1, 0, "55 bytes: refusal 1");
+    refused(survey, 56, 3, 0, "56 bytes, the course outside: refusal 3");
+    refused(survey, PAPER_BYTES - 1, 3, 0, "83 bytes, the seams outside: refusal 3");
 
     enum { LONG = 70000 };
     uint8_t *file = calloc(LONG, 1);
@@ -139,16 +161,31 @@ static void refused_surveys(void)
     refused_with(32, 0, 2, 0, "no course: refusal 2");
     refused_with(32, 41, 2, 0, "41 courses: refusal 2");
     refused_with(40, 65, 2, 0, "65 deadwood items: refusal 2");
-    refused_with(36, 47, 3, 0, "courses inside the header: refusal 3");
+    refused_with(48, 0, 2, 0, "no record of seams for one course: refusal 2");
+    refused_with(48, 2, 2, 0, "two records of seams for one course: refusal 2");
+    refused_with(36, 55, 3, 0, "courses inside the header: refusal 3");
     refused_with(36, 0xFFFFFFF0u, 3, 0, "courses far outside the file: refusal 3");
+    refused_with(52, 55, 3, 0, "seams inside the header: refusal 3");
+    refused_with(52, 71, 3, 0, "seams over the course: refusal 3");
+    refused_with(52, 73, 3, 0, "seams past the file's end: refusal 3");
     refused_with(0, 3, 4, 0, "head kind 3: refusal 4");
     refused_with(4, 49999, 5, 4, "DH 49,999: refusal 5 at byte 4");
     refused_with(24, 1, 5, 24, "a flat head with a length: refusal 5 at byte 24");
     refused_with(0, 2, 5, 24, "a spherical cap without a length: refusal 5 at byte 24");
-    refused_with(60, 5001, 5, 60, "a wall too thick: refusal 5 at byte 60");
-    refused_with(56, 99899, 6, 0, "one course 101 shorter than the shell: refusal 6");
-    refused_with(56, 100101, 6, 0, "one course 101 longer than the shell: refusal 6");
+    refused_with(THICKNESS_AT, 5001, 5, 68, "a wall too thick: refusal 5 at byte 68");
+    refused_with(SEAMS_AT, 13, 5, 72, "13 seams: refusal 5 at byte 72");
+    refused_with(SEAMS_AT + 4, 1001, 5, 76, "a seam too thick: refusal 5 at byte 76");
+    refused_with(SEAMS_AT + 8, 5001, 5, 80, "a seam too wide: refusal 5 at byte 80");
+    refused_with(LENGTH_AT, 99899, 6, 0, "one course 101 shorter than the shell: refusal 6");
+    refused_with(LENGTH_AT, 100101, 6, 0, "one course 101 longer than the shell: refusal 6");
     refused_with(4, 60001, 7, 0, "D1 more than 10,000 below DH: refusal 7");
+
+    with_seams(survey, 150129, 160221);
+    refused(survey, PAPER_BYTES, 5, 56, "a first circumference that the tape's rise takes below its limit: refusal 5 at byte 56");
+    with_seams(survey, 160221, 150129);
+    refused(survey, PAPER_BYTES, 5, 60, "and a second one: refusal 5 at byte 60");
+    with_seams(survey, 150130, 150130);
+    refused(survey, PAPER_BYTES, 7, 0, "corrected readings at their limit: refusal 7 is the first");
 
     with_caps(survey, 25001);
     refused(survey, PAPER_BYTES, 14, 0, "caps longer than half of D2: refusal 14");

@@ -6,19 +6,7 @@
 #include "lent.h"
 #include "milechime.h"
 #include "paper.h"
-
-#include <string.h>
-
-/* The words are these, of that length, and 0 behind them. */
-static bool says(struct milechime_words_answer a, const char *words)
-{
-    if (a.length != strlen(words) || a.length >= MILECHIME_MOST_WORDS || memcmp(a.text, words, a.length) != 0)
-        return false;
-    for (size_t i = a.length; i < MILECHIME_MOST_WORDS; i++)
-        if (a.text[i] != 0)
-            return false;
-    return true;
-}
+#include "says.h"
 
 /* The refusal that a survey gets, in words. */
 static void told(const uint8_t *survey, size_t length, const char *words)
@@ -42,13 +30,27 @@ void words_checks(void)
 {
     uint8_t survey[PAPER_BYTES];
     paper_survey(survey);
-    told(survey, 47, "file of 47 bytes: must have 48 to 65536");
+    told(survey, 55, "file of 55 bytes: must have 56 to 65536");
     told_with(32, 41, "course count 41: must be 1 to 40");
+    told_with(48, 3, "seam count 3: must be 1, the course count");
+    told_with(52, 73, "byte offset of the seams 73: its 1 records must start at byte 56 or later and end inside the file of 84 bytes");
+    told_with(52, 71, "byte offset of the seams 71: its 1 records must not overlap the courses");
     told_with(0, 3, "head kind 3: must be 0 (flat), 1 (half-ellipsoid) or 2 (spherical cap)");
     told_with(4, 49999, "dip diameter DH 49999 (499.99 mm): must be 50000 to 500000");
-    told_with(56, 99899, "sum of the course lengths 99899 (998.99 mm): must be 99900 to 100100, "
-                         "the shell length L1 give or take 100 for each course");
-    told_with(60, 5001, "course 1, thickness 5001 (50.01 mm): must be 100 to 5000");
+    told_with(LENGTH_AT, 99899, "sum of the course lengths 99899 (998.99 mm): must be 99900 to 100100, "
+                                "the shell length L1 give or take 100 for each course");
+    told_with(THICKNESS_AT, 5001, "course 1, thickness 5001 (50.01 mm): must be 100 to 5000");
+    told_with(SEAMS_AT, 13, "seams of course 1, number 13: must be 0 to 12");
+    told_with(SEAMS_AT + 4, 1001, "seams of course 1, thickness 1001 (10.01 mm): must be 0 to 1000");
+    told_with(SEAMS_AT + 8, 5001, "seams of course 1, width 5001 (50.01 mm): must be 0 to 5000");
+    uint8_t seams[PAPER_BYTES];
+    paper_survey(seams);
+    put(seams, FIRST_AT, 150129);
+    put(seams, SEAMS_AT, 3);
+    put(seams, SEAMS_AT + 4, 200);
+    put(seams, SEAMS_AT + 8, 1200);
+    told(seams, PAPER_BYTES,
+         "course 1, first circumference less the tape rise over its seams 149999 (1,499.99 mm): must be 150000 to 1600000");
     uint8_t caps[PAPER_BYTES];
     paper_survey(caps);
     put(caps, 0, 2);
@@ -57,7 +59,7 @@ void words_checks(void)
     put(caps, 4, 49999);
     check(says(milechime_words(caps, PAPER_BYTES, 14, 0), "refusal 14 at place 0: not one of this survey's"),
           "refusal 14 of a survey that gets an earlier one");
-    check(says(milechime_words(NULL, 0, 1, 0), "file of 0 bytes: must have 48 to 65536"), "no survey at all");
+    check(says(milechime_words(NULL, 0, 1, 0), "file of 0 bytes: must have 56 to 65536"), "no survey at all");
     check(says(milechime_words(survey, PAPER_BYTES, 8, 0), "lent table: must have a cell for each row"), "a lent table that is too short");
     check(says(milechime_words(survey, PAPER_BYTES, 5, 6), "refusal 5 at place 6: not one of this survey's"), "a place that no number has");
     check(says(milechime_words(survey, PAPER_BYTES, UINT32_MAX, UINT32_MAX),

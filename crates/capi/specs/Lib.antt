@@ -1,4 +1,4 @@
--- The answers as plain numbers, what they promise of rows and heights, and that 0 is no refusal.
+-- The answers as plain numbers, what they promise of rows, heights and files, and that 0 is no refusal.
 pub mod Numbers
 pub mod Promises
 pub mod RefusalLaws

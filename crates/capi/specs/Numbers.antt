@@ -1,10 +1,16 @@
 -- Each answer as plain numbers: the refusal's number and place, both 0 where nothing is refused, and the figures, all 0 in a
 -- refusal; and a refusal in words. Assumes nothing.
+use Prim.Native.Nat.{ℕ}
+use mathlib.Core.List.{List}
 use lib.ListN.{length, replicate}
+use Rattle.refusal.specs.declared.Verdict.{Verdict}
+use Rattle.refusal.specs.declared.Verdict.the-variants as verdict
 use Rattle.measure.specs.Quantity.{diameterUnits, dipUnits, volumeUnits}
 use Rattle.survey.specs.declared.fault.Fault.{Fault}
 use Rattle.table.specs.declared.make.Made.{Made}
 use Rattle.table.specs.declared.make.Made.the-variants as made
+use Rattle.rewrite.specs.Rewritten.{mostBytes}
+use Rattle.convert.specs.declared.Converted.{Converted}
 use Rattle.lookup.specs.declared.litres.LitresAnswer.{LitresAnswer}
 use Rattle.lookup.specs.declared.litres.LitresAnswer.the-variants as litres
 use Rattle.lookup.specs.declared.height.HeightAnswer.{HeightAnswer}
@@ -14,6 +20,7 @@ use Rattle.wording.specs.Sentences.{faultSize, faultWords}
 use Rattle.capi.specs.declared.numbers.TableNumbers.{TableNumbers}
 use Rattle.capi.specs.declared.numbers.LitresNumbers.{LitresNumbers}
 use Rattle.capi.specs.declared.numbers.HeightNumbers.{HeightNumbers}
+use Rattle.capi.specs.declared.numbers.ConvertedNumbers.{ConvertedNumbers}
 use Rattle.capi.specs.declared.numbers.Words.{Words}
 
 abbrev pub tableNumbers : Made → TableNumbers
@@ -27,6 +34,14 @@ litresNumbers (litres.Refused r) = record { refusal = r .number; place = r .plac
 abbrev pub heightNumbers : HeightAnswer → HeightNumbers
 heightNumbers (height.Height h) = record { refusal = 0; place = 0; height = dipUnits h }
 heightNumbers (height.Refused r) = record { refusal = r .number; place = r .place; height = 0 }
+
+-- a converted file: how many bytes, and the memory at whose front they stand
+abbrev pub fileNumbers : Verdict → ℕ → List ℕ → ConvertedNumbers
+fileNumbers verdict.Passed length file = record { refusal = 0; place = 0; length = length; file = file }
+fileNumbers (verdict.Refused r) length file = record { refusal = r .number; place = r .place; length = 0; file = replicate mostBytes 0 }
+
+abbrev pub convertedNumbers : Converted → ConvertedNumbers
+convertedNumbers c = fileNumbers (c .verdict) (c .length) (c .file)
 
 -- a refusal in words: how many bytes, and these at the front of a text that is 0 behind them
 abbrev pub wordsOf : Fault → Words

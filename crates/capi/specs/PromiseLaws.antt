@@ -9,8 +9,10 @@ use Rattle.refusal.specs.declared.Verdict.{Verdict}
 use Rattle.refusal.specs.declared.Verdict.the-variants.{Passed, Refused}
 use Rattle.survey.specs.declared.decode.Decoded.{Decoded}
 use Rattle.survey.specs.declared.decode.Survey.{Survey}
+use Rattle.rewrite.specs.Rewritten.{mostBytes}
 use Rattle.table.specs.Answer.{made, answerBy, verdictOn}
 use Rattle.table.specs.Condition3.{EveryRow}
+use Rattle.convert.specs.Converted.{converted, Keeps}
 use Rattle.lookup.specs.Table.{soundTable}
 use Rattle.lookup.specs.Litres.{litres}
 use Rattle.lookup.specs.Height.{heightFor}
@@ -18,9 +20,9 @@ use Rattle.lookup.specs.Answer.{litresBy, litresAnswer, ReadOff, TooHigh, heigh
 use Rattle.lookup.specs.AnswerLaws.{above-limit, read-off-only, reached-only}
 use Rattle.capi.specs.declared.numbers.LitresNumbers.{LitresNumbers}
 use Rattle.capi.specs.declared.numbers.HeightNumbers.{HeightNumbers}
-use Rattle.capi.specs.Numbers.{tableNumbers, litresNumbers, heightNumbers}
-use Rattle.capi.specs.Promises.{EveryCounted, OnTableAnswered, LowestAnswered}
-use Rattle.capi.specs.RefusalLaws.{litres-answered, height-answered}
+use Rattle.capi.specs.Numbers.{tableNumbers, litresNumbers, heightNumbers, fileNumbers, convertedNumbers}
+use Rattle.capi.specs.Promises.{EveryCounted, OnTableAnswered, LowestAnswered, ConvertedKeeps}
+use Rattle.capi.specs.RefusalLaws.{litres-answered, height-answered, convert-answered}
 
 pub counted : (claim : Survey → List ℕ → ℕ → Type 0) (file : Decoded) (cells : ℕ) (table : List ℕ)
     → EveryRow claim (file .survey) (made file cells) table → EveryCounted claim (file .survey) (tableNumbers (made file cells) .rows) table
@@ -65,6 +67,17 @@ module _ (dh step : ℕ) (table : List ℕ) where
 
   pub lowest-only : (w : ℕ) (r : HeightNumbers) → r .refusal ≡ 0 → LowestAnswered dh step table w r → heightFor dh step table w ≡ r .height
   lowest-only w r e told = reached-only dh step table w (r .height) (told e)
+
+-- a converted file
+
+pub converted-keeps : (s : List ℕ) → Keeps s (converted s) → ConvertedKeeps s (convertedNumbers (converted s))
+converted-keeps s told e =
+    let passed = convert-answered s e in
+    rw passed (told passed)
+
+pub numbers-short : (w : Verdict) (n : ℕ) (file : List ℕ) → n ≤ mostBytes → fileNumbers w n file .length ≤ mostBytes
+numbers-short Passed n file short = short
+numbers-short (Refused r) n file short = omega arith
 
 -- a claim about every row counted is one about each
 pub each-counted : (claim : Survey → List ℕ → ℕ → Type 0) (v : Survey) (rows : ℕ) (table : List ℕ) → EveryCounted claim v rows table

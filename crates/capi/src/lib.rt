@@ -1,29 +1,38 @@
-// The calls that C programs make, under names that begin with milechime_: the table of a survey, both lookups, and a refusal in words, on numbers
-// and slices alone. A slice is a pointer and a length to C. Nothing is asked of a caller but that these are what they say.
+// The calls that C programs make, under names that begin with milechime_: the table of a survey, both lookups, an old survey in today's format,
+// and a refusal in words, on numbers and slices alone. A slice is a pointer and a length to C. Nothing is asked of a caller but that these are
+// what they say.
 ghost use mathlib.Core.Path.{_≡_};
-ghost use Prim.Native.Nat.{_<_};
+ghost use Prim.Native.Nat.{_≤_, _<_};
 ghost use lib.ListN.{length};
 ghost use Rattle.laws.specs.Exactly.{Exactly};
+ghost use Rattle.survey.specs.Format.{format48};
 ghost use Rattle.survey.specs.Survey.{decoded};
-ghost use Rattle.survey.specs.Fault.{faultOf};
+ghost use Rattle.survey.specs.Fault.{faultAs, faultOf};
+ghost use Rattle.rewrite.specs.Rewritten.{mostBytes};
 ghost use Rattle.table.specs.Answer.{made, tableLeft};
 ghost use Rattle.table.specs.Condition3.{NetRowAt, Condition3At};
+ghost use Rattle.convert.specs.Converted.{converted};
 ghost use Rattle.lookup.specs.Answer.{litresAnswer, TooHigh, heightAnswer, TooMuch};
 ghost use Rattle.wording.specs.Sentences.{faultSize};
-ghost use Rattle.capi.specs.Numbers.{tableNumbers, litresNumbers, heightNumbers, wordsOf};
-ghost use Rattle.capi.specs.Promises.{EveryCounted, OnTableAnswered, LowestAnswered};
+ghost use Rattle.capi.specs.Numbers.{tableNumbers, litresNumbers, heightNumbers, convertedNumbers, wordsOf};
+ghost use Rattle.capi.specs.Promises.{EveryCounted, OnTableAnswered, LowestAnswered, ConvertedKeeps};
+use convert::convert_48;
 use lookup::height::height_for;
 use lookup::litres::litres_at;
 use measure::dip_height::DipHeight;
 use measure::volume::Volume;
+use numbers::ConvertedNumbers;
 use numbers::HeightNumbers;
 use numbers::LitresNumbers;
 use numbers::TableNumbers;
 use numbers::Words;
+use numbers::converted_numbers;
 use numbers::height_numbers;
 use numbers::litres_numbers;
 use numbers::table_numbers;
+use survey::fault::Fault;
 use survey::fault::fault_of;
+use survey::fault::fault_of_48;
 use table::make::make_table;
 use wording::put_words;
 
@@ -60,17 +69,42 @@ pub extern "C" fn milechime_height(dh: u32, step: u32, table: &[u32], volume: u3
     height_numbers(height_for(dh, step, table, Volume::of(volume)))
 }
 
-// What a refusal of a survey's table is about, in words.
+// An old survey, with a header of 48 bytes, in today's format; its table stays.
 #[no_mangle]
-pub extern "C" fn milechime_words(survey: &[u8], refusal: u32, place: u32) -> Words
-    ensures { λ r. ⌜ r ≡ wordsOf (faultOf (now (survey .entry)) refusal place) ⌝ }
+pub extern "C" fn milechime_convert_48(survey: &[u8]) -> ConvertedNumbers
+    ensures { λ r. ⌜ r ≡ convertedNumbers (converted (now (survey .entry))) ⌝ }
+    ensures { λ r. ⌜ ConvertedKeeps (now (survey .entry)) r ⌝ }
+    ensures { λ r. ⌜ r .length ≤ mostBytes ⌝ }
+{
+    converted_numbers(convert_48(survey))
+}
+
+fn in_words(fault: Fault) -> Words
+    ensures { λ r. ⌜ r ≡ wordsOf fault ⌝ }
     ensures { λ r. ⌜ r .length < faultSize ⌝ }
 {
-    let fault = fault_of(survey, refusal, place);
     let mut text = [0u8; 256];
     let length = put_words(&mut text, 0, fault);
     Words {
         length: length as u32,
         text,
     }
+}
+
+// What a refusal of a survey's table is about, in words.
+#[no_mangle]
+pub extern "C" fn milechime_words(survey: &[u8], refusal: u32, place: u32) -> Words
+    ensures { λ r. ⌜ r ≡ wordsOf (faultOf (now (survey .entry)) refusal place) ⌝ }
+    ensures { λ r. ⌜ r .length < faultSize ⌝ }
+{
+    in_words(fault_of(survey, refusal, place))
+}
+
+// .. and what a refusal to convert an old survey is about.
+#[no_mangle]
+pub extern "C" fn milechime_words_48(survey: &[u8], refusal: u32, place: u32) -> Words
+    ensures { λ r. ⌜ r ≡ wordsOf (faultAs format48 (now (survey .entry)) refusal place) ⌝ }
+    ensures { λ r. ⌜ r .length < faultSize ⌝ }
+{
+    in_words(fault_of_48(survey, refusal, place))
 }

@@ -1,9 +1,14 @@
 // An answer as plain numbers, laid out as C lays them out: the refusal's number and place, both 0 where nothing is refused, and
 // the figures, all 0 in a refusal. No refusal has number 0 (specs/RefusalLaws.antt).
 ghost use mathlib.Core.Path.{_≡_};
-ghost use Rattle.capi.specs.Numbers.{tableNumbers, litresNumbers, heightNumbers};
+ghost use Prim.Native.Nat.{_≤_};
+ghost use Rattle.rewrite.specs.Rewritten.{mostBytes};
+ghost use Rattle.capi.specs.Numbers.{tableNumbers, litresNumbers, heightNumbers, convertedNumbers};
+use convert::Converted;
 use lookup::height::HeightAnswer;
 use lookup::litres::LitresAnswer;
+use refusal::Verdict;
+use rewrite::file::MOST_BYTES;
 use table::make::Made;
 
 #[repr(C)]
@@ -27,6 +32,15 @@ pub struct HeightNumbers {
     pub refusal: u32,
     pub place: u32,
     pub height: u32,
+}
+
+// A converted file: the first `length` bytes; behind them stands 0.
+#[repr(C)]
+pub struct ConvertedNumbers {
+    pub refusal: u32,
+    pub place: u32,
+    pub length: u32,
+    pub file: [u8; MOST_BYTES],
 }
 
 // The words of a refusal: the first `length` bytes of the text; behind them it is 0, and at least one byte is.
@@ -87,6 +101,28 @@ pub fn height_numbers(answer: HeightAnswer) -> HeightNumbers
             refusal: r.number,
             place: r.place,
             height: 0,
+        },
+    }
+}
+
+pub fn converted_numbers(answer: Converted) -> ConvertedNumbers
+    requires { ⌜ answer .length ≤ mostBytes ⌝ }
+    ensures { λ r. ⌜ r ≡ convertedNumbers answer ⌝ }
+{
+    let verdict = answer.verdict;
+    let file = answer.file;
+    match verdict {
+        Verdict::Passed => ConvertedNumbers {
+            refusal: 0,
+            place: 0,
+            length: answer.length as u32,
+            file,
+        },
+        Verdict::Refused(r) => ConvertedNumbers {
+            refusal: r.number,
+            place: r.place,
+            length: 0,
+            file: [0u8; MOST_BYTES],
         },
     }
 }

@@ -10,7 +10,10 @@ use Rattle.refusal.specs.declared.Refusal.{Refusal}
 use Rattle.refusal.specs.declared.Verdict.{Verdict}
 use Rattle.refusal.specs.declared.Verdict.the-variants as verdicts
 use Rattle.survey.specs.declared.fault.Fault.{Fault}
-use Rattle.survey.specs.Fault.{faultOf}
+use Rattle.survey.specs.Format.{format48}
+use Rattle.survey.specs.Fault.{faultAs, faultOf}
+use Rattle.convert.specs.declared.Converted.{Converted}
+use Rattle.convert.specs.Converted.{fileIn}
 use Rattle.lookup.specs.declared.litres.LitresAnswer.{LitresAnswer}
 use Rattle.lookup.specs.declared.litres.LitresAnswer.the-variants as litresAnswers
 use Rattle.lookup.specs.declared.height.HeightAnswer.{HeightAnswer}
@@ -52,6 +55,19 @@ tableText t = tableTextBy (t .verdict) t
 abbrev pub verdictWords : List ℕ → Verdict → List ℕ
 verdictWords s verdicts.Passed = []
 verdictWords s (verdicts.Refused r) = faultLine (fileFault s r)
+
+-- an old file converted: its bytes, and nothing beside them
+
+abbrev pub conversionTextBy : Verdict → Converted → List ℕ
+conversionTextBy verdicts.Passed c = fileIn c
+conversionTextBy (verdicts.Refused r) c = refusedText r
+
+unfoldable pub conversionText : Converted → List ℕ
+conversionText c = conversionTextBy (c .verdict) c
+
+abbrev pub conversionWords : List ℕ → Verdict → List ℕ
+conversionWords s verdicts.Passed = []
+conversionWords s (verdicts.Refused r) = faultLine (faultAs format48 s (r .number) (r .place))
 
 -- a lookup on the table of a file: its own refusal is about what was asked for, any other about the file
 

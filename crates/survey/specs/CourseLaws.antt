@@ -4,48 +4,49 @@ use mathlib.Core.Path.{_≡_}
 use mathlib.Core.List.{List}
 use native.Mathlib.Nat.{mul-le-mul}
 use native.Mathlib.Omega.{arith}
-use lib.ListN.{length}
 use Rattle.refusal.specs.declared.Verdict.the-variants.{Passed}
 use Rattle.refusal.specs.Test.{verdict}
 use Rattle.refusal.specs.TestLaws.{passed-all, within-pass}
 use Rattle.tank.specs.Limits.{longestShell}
 use Rattle.survey.specs.declared.dimensions.Sums.{Sums}
-use Rattle.survey.specs.declared.section.Section.{Section}
+use Rattle.survey.specs.declared.format.Format.{Format}
 use Rattle.survey.specs.Word.{word}
-use Rattle.survey.specs.Layout.{firstIn, secondIn, lengthIn, thicknessIn, courseEnd}
-use Rattle.survey.specs.Limits.{largestFile, mostCourses, shortestCircumference, longestCircumference, shortestCourse, thinnest, thickest}
-use Rattle.survey.specs.Section.{recordAt}
+use Rattle.survey.specs.Layout.{firstIn, secondIn, lengthIn, thicknessIn}
+use Rattle.survey.specs.Limits.{mostCourses, shortestCircumference, longestCircumference, shortestCourse, thinnest, thickest}
+use Rattle.survey.specs.Section.{courses, recordAt}
+use Rattle.survey.specs.Reading.{riseOf, corrected}
 use Rattle.survey.specs.Dimensions.{sumOf, sumsOver}
-use Rattle.survey.specs.Tests.{courseTests}
+use Rattle.survey.specs.Tests.{courseTests, readingTests}
 
--- the course at a byte
-pub record CourseFits (s : List ℕ) (at : ℕ) : Type 0 where
-  pub first : word s (at + firstIn) ≤ longestCircumference
-  pub second : word s (at + secondIn) ≤ longestCircumference
+-- the course at a byte, whose readings have lost the tape rise: neither was shorter than that
+pub record CourseFits (s : List ℕ) (at rise : ℕ) : Type 0 where
+  pub first : shortestCircumference + rise ≤ word s (at + firstIn)
+  pub first-high : word s (at + firstIn) ≤ longestCircumference
+  pub second : shortestCircumference + rise ≤ word s (at + secondIn)
+  pub second-high : word s (at + secondIn) ≤ longestCircumference
   pub some : shortestCourse ≤ word s (at + lengthIn)
   pub long : word s (at + lengthIn) ≤ longestShell
   pub thick : word s (at + thicknessIn) ≤ thickest
 
-pub course-fits : (s : List ℕ) (at : ℕ) → verdict (courseTests s at) ≡ Passed → CourseFits s at
-unfolding courseTests
-course-fits s at e =
+pub course-fits : (s : List ℕ) (at rise : ℕ) → verdict (courseTests s at) ≡ Passed → verdict (readingTests s at rise) ≡ Passed → CourseFits s at rise
+unfolding courseTests readingTests
+course-fits s at rise e corrects =
     let pass = passed-all (courseTests s at) e in
+    let readings = passed-all (readingTests s at rise) corrects in
     let length = within-pass shortestCourse (word s (at + lengthIn)) longestShell (pass .1 .1 .0) in
     record {
-      first = within-pass shortestCircumference (word s (at + firstIn)) longestCircumference (pass .0) .1;
-      second = within-pass shortestCircumference (word s (at + secondIn)) longestCircumference (pass .1 .0) .1;
+      first = omega (arith, within-pass shortestCircumference (corrected (word s (at + firstIn)) rise) longestCircumference (readings .0));
+      first-high = within-pass shortestCircumference (word s (at + firstIn)) longestCircumference (pass .0) .1;
+      second = omega (arith, within-pass shortestCircumference (corrected (word s (at + secondIn)) rise) longestCircumference (readings .1 .0));
+      second-high = within-pass shortestCircumference (word s (at + secondIn)) longestCircumference (pass .1 .0) .1;
       some = length .0;
       long = length .1;
       thick = within-pass thinnest (word s (at + thicknessIn)) thickest (pass .1 .1 .1 .0) .1;
     }
 
--- the courses of a section
-pub record Courses (s : List ℕ) (x : Section) : Type 0 where
-  pub file : length s ≤ largestFile
-  pub few : x .count ≤ mostCourses
-  pub long : courseEnd ≤ x .size
-  pub inside : (i : ℕ) → i < x .count → recordAt x i + x .size ≤ length s
-  pub each : (i : ℕ) → i < x .count → CourseFits s (recordAt x i)
+-- every course of a file
+abbrev pub CoursesFit : Format → List ℕ → Type 0
+CoursesFit f s = (i : ℕ) → i < courses f s .count → CourseFits s (recordAt (courses f s) i) (riseOf f s i)
 
 -- the largest that a course adds
 abbrev pub mostReading : ℕ
@@ -74,22 +75,26 @@ sums-small n t few of = record {
   count = omega (arith, of .count);
 }
 
-pub sum-fits : (s : List ℕ) (at : ℕ) → CourseFits s at → SumsOf 1 (sumOf s at)
+pub sum-fits : (s : List ℕ) (at rise : ℕ) → CourseFits s at rise → SumsOf 1 (sumOf s at rise)
 unfolding sumOf
-sum-fits s at c = record {
-  readings = let both : word s (at + firstIn) + word s (at + secondIn) ≤ 2 * longestCircumference = omega (arith, c .first, c .second) in omega (arith, mul-le-mul both (c .long));
+sum-fits s at rise c = record {
+  readings =
+      let first = word s (at + firstIn) in
+      let second = word s (at + secondIn) in
+      let both : corrected first rise + corrected second rise ≤ 2 * longestCircumference = omega (arith, c .first-high, c .second-high) in
+      omega (arith, mul-le-mul both (c .long));
   lengths = omega (arith, c .long);
   some = c .some;
   thicknesses = omega (arith, c .thick);
   count = omega arith;
 }
 
-pub sums-fit : (s : List ℕ) (x : Section) → Courses s x → (n : ℕ) → n ≤ x .count → SumsOf n (sumsOver s x n)
+pub sums-fit : (f : Format) (s : List ℕ) → CoursesFit f s → (n : ℕ) → n ≤ courses f s .count → SumsOf n (sumsOver f s n)
 unfolding sumsOver
-sums-fit s x cs zero l = record { readings = omega arith; lengths = omega arith; some = omega arith; thicknesses = omega arith; count = omega arith }
-sums-fit s x cs (suc n) l =
-    let before = sums-fit s x cs n (omega arith) in
-    let one = sum-fits s (recordAt x n) (cs .each n (omega arith)) in
+sums-fit f s each zero l = record { readings = omega arith; lengths = omega arith; some = omega arith; thicknesses = omega arith; count = omega arith }
+sums-fit f s each (suc n) l =
+    let before = sums-fit f s each n (omega arith) in
+    let one = sum-fits s (recordAt (courses f s) n) (riseOf f s n) (each n (omega arith)) in
     record {
       readings = omega (arith, before .readings, one .readings);
       lengths = omega (arith, before .lengths, one .lengths);

@@ -16,28 +16,42 @@ use Rattle.refusal.specs.TestLaws.{verdict-append, passed-all}
 use Rattle.heads.specs.Kind.{kindKnown}
 use Rattle.survey.specs.declared.format.Format.{Format}
 use Rattle.survey.specs.Word.{word}
-use Rattle.survey.specs.Layout.{today, kindAt, leftAt, rightAt}
+use Rattle.survey.specs.Layout.{kindAt, leftAt, rightAt}
+use Rattle.survey.specs.Format.{today}
 use Rattle.survey.specs.Limits.{largestFile}
 use Rattle.survey.specs.Dimensions.{sumsOf, outerDiameter, shellDiameter, headDiameter, d1, d2}
-use Rattle.survey.specs.Tests.{layoutTests, numberTests, dimensionTests, fileTests}
+use Rattle.survey.specs.Tests.{layoutTests, limitTests, correctedTests, numberTests, dimensionTests, fileTests}
 use Rattle.survey.specs.Survey.{decoded}
-use Rattle.survey.specs.Fault.{passed, numbersPass}
+use Rattle.survey.specs.Fault.{passed, limitsPass, numbersPass}
 use Rattle.survey.specs.SectionLaws.{Readable, placed-file}
-use Rattle.survey.specs.SurveyLaws.{NumbersFit, file-sums-fit, ends-fit}
+use Rattle.survey.specs.FitLaws.{LimitsFit, NumbersFit, as-they-stand, file-sums-fit, ends-fit}
 use Rattle.survey.specs.NumberedLaws.{decoded-verdict}
 
 pub passed-verdict : (v : Verdict) → passed v ≡ true → v ≡ Passed
 passed-verdict Passed e = refl
 passed-verdict (Refused r) e = absurd (true-not-false (sym e))
 
+-- where refusals 1 to 4 are not given, nor 5 to a number as it stands ..
+module _ (f : Format) (s : List ℕ) (e : limitsPass f s ≡ true) where
+  each-limit-passes : (within (f .header) (length s) largestFile ≡ true) × (verdict (layoutTests f s) ≡ Passed) × (verdict (limitTests f s) ≡ Passed)
+  unfolding limitsPass
+  each-limit-passes =
+      let size = both-pass (within (f .header) (length s) largestFile) (passed (verdict (layoutTests f s)) && passed (verdict (limitTests f s))) e in
+      let both = both-pass (passed (verdict (layoutTests f s))) (passed (verdict (limitTests f s))) (size .1) in
+      (size .0, passed-verdict (verdict (layoutTests f s)) (both .0), passed-verdict (verdict (limitTests f s)) (both .1))
+
+  -- .. all that they ask holds
+  pub limits-pass : Readable f → LimitsFit f s
+  limits-pass readable = record { placed = placed-file f s readable (each-limit-passes .0) (each-limit-passes .1); limits = each-limit-passes .2 }
+
 -- where refusals 1 to 5 are not given ..
 module _ (f : Format) (s : List ℕ) (e : numbersPass f s ≡ true) where
   each-passes : (within (f .header) (length s) largestFile ≡ true) × (verdict (layoutTests f s) ≡ Passed) × (verdict (numberTests f s) ≡ Passed)
   unfolding numbersPass
   each-passes =
-      let size = both-pass (within (f .header) (length s) largestFile) (passed (verdict (layoutTests f s)) && passed (verdict (numberTests f s))) e in
-      let both = both-pass (passed (verdict (layoutTests f s))) (passed (verdict (numberTests f s))) (size .1) in
-      (size .0, passed-verdict (verdict (layoutTests f s)) (both .0), passed-verdict (verdict (numberTests f s)) (both .1))
+      let both = both-pass (limitsPass f s) (passed (verdict (correctedTests f s))) e in
+      let limits = each-limit-passes f s (both .0) in
+      (limits .0, limits .1, verdict-append (limitTests f s) (correctedTests f s) ∙ rw (limits .2, passed-verdict (verdict (correctedTests f s)) (both .1)))
 
   -- .. all that they ask holds
   pub numbers-pass : Readable f → NumbersFit f s
@@ -45,7 +59,7 @@ module _ (f : Format) (s : List ℕ) (e : numbersPass f s ≡ true) where
 
   pub kind-known : kindKnown (word s kindAt) ≡ true
   unfolding layoutTests
-  kind-known = passed-all (layoutTests f s) (each-passes .1) .1 .1 .1 .1 .1 .0
+  kind-known = passed-all (layoutTests f s) (each-passes .1) .1 .1 .1 .1 .1 .1 .1 .1 .1 .0
 
   -- .. and 6, 7 and 14 are the verdict
   pub dimensions-decide : verdict (fileTests f s) ≡ verdict (dimensionTests f s)
@@ -78,5 +92,5 @@ diameters-small f s fit =
     let sums = file-sums-fit f s fit in
     let ends = word s leftAt + word s rightAt in (
       omega (arith, sums .0 .readings, outer-at-most (sumsOf f s .readings) (sumsOf f s .lengths) (sums .1)),
-      omega (arith, ends-fit f s fit, outer-at-most ends 1 (omega arith)),
+      omega (arith, ends-fit f s (as-they-stand f s fit), outer-at-most ends 1 (omega arith)),
     )

@@ -16,17 +16,18 @@ use Rattle.survey.specs.declared.dimensions.Sums.{Sums}
 use Rattle.survey.specs.declared.dimensions.Dimensions.{Dimensions}
 use Rattle.survey.specs.declared.dimensions.Dimensions.the-variants.{Found, Refused}
 use Rattle.survey.specs.declared.format.Format.{Format}
-use Rattle.survey.specs.declared.section.Section.{Section}
 use Rattle.survey.specs.Word.{word}
 use Rattle.survey.specs.Layout.{leftAt, rightAt, firstIn, secondIn, lengthIn, thicknessIn}
 use Rattle.survey.specs.Limits.{courseAllowance, farthest}
 use Rattle.survey.specs.Section.{courses, recordAt}
+use Rattle.survey.specs.Reading.{riseOf, corrected}
 
--- what the course at a byte adds to the sums: (first + second circumference) · length, its length, its thickness
-unfoldable pub sumOf : List ℕ → ℕ → Sums
-sumOf s at =
+-- what the course at a byte adds to the sums: (first + second circumference) · length, its length, its thickness. Both circumferences have
+-- lost the tape rise
+unfoldable pub sumOf : List ℕ → (at rise : ℕ) → Sums
+sumOf s at rise =
     record {
-      readings = (word s (at + firstIn) + word s (at + secondIn)) * word s (at + lengthIn);
+      readings = (corrected (word s (at + firstIn)) rise + corrected (word s (at + secondIn)) rise) * word s (at + lengthIn);
       lengths = word s (at + lengthIn);
       thicknesses = word s (at + thicknessIn);
       count = 1;
@@ -41,14 +42,14 @@ added t u =
       count = t .count + u .count;
     }
 
--- over the first n courses of a section
-unfoldable pub sumsOver : List ℕ → Section → ℕ → Sums
-sumsOver s x zero = record { readings = 0; lengths = 0; thicknesses = 0; count = 0 }
-sumsOver s x (suc n) = added (sumsOver s x n) (sumOf s (recordAt x n))
+-- over the first n courses of a file
+unfoldable pub sumsOver : Format → List ℕ → ℕ → Sums
+sumsOver f s zero = record { readings = 0; lengths = 0; thicknesses = 0; count = 0 }
+sumsOver f s (suc n) = added (sumsOver f s n) (sumOf s (recordAt (courses f s) n) (riseOf f s n))
 
--- over all of a file's: W, the sum of the lengths, that of the thicknesses, and the course count
+-- over all of them: W, the sum of the lengths, that of the thicknesses, and the course count
 abbrev pub sumsOf : Format → List ℕ → Sums
-sumsOf f s = sumsOver s (courses f s) (courses f s .count)
+sumsOf f s = sumsOver f s (courses f s .count)
 
 -- how far the lengths may lie from L1: readings are good to 0.5 mm, so honest lengths seldom add up to it (document 02, E1)
 abbrev pub allowance : Sums → ℕ

@@ -1,11 +1,12 @@
 -- Document 01's example survey, byte by byte: kind 0, DH 50,000, L1 100,000, ends 160,221, L2 0, step 10,000, one course (160,221,
--- 160,221, 100,000, 500), no deadwood. And what it is decoded to, which is a computation. Assumes nothing.
-use Prim.Native.Nat.{ℕ, _/_, _%_}
+-- 160,221, 100,000, 500), no deadwood, no seams. And what it is decoded to, which is a computation. Assumes nothing.
+use Prim.Native.Nat.{ℕ, _+_, _*_}
 use mathlib.Core.Path.{_≡_, refl}
 use mathlib.Core.List.{List, [], _∷_, _++_}
 use lib.ListN.{length}
 use Rattle.laws.specs.Fill.{rowsOf}
 use Rattle.laws.specs.Nearest.{nearest}
+use Rattle.laws.specs.Root.{root, rootOf}
 use Rattle.measure.specs.Quantity.{diameter}
 use Rattle.refusal.specs.declared.Verdict.the-variants.{Passed}
 use Rattle.refusal.specs.Test.{items}
@@ -14,28 +15,29 @@ use Rattle.heads.specs.declared.kind.HeadKind.the-variants.{Flat, SphericalCap}
 use Rattle.heads.specs.Kind.{kindKnown, kindOf}
 use Rattle.heads.specs.Length.{lengthFits}
 use Rattle.survey.specs.declared.decode.Survey.{Survey}
-use Rattle.survey.specs.Word.{word, signedWord}
-use Rattle.survey.specs.Section.{countFits, placed, apart}
+use Rattle.seams.specs.Rise.{firstTerm, secondTerm, tapeRise}
+use Rattle.survey.specs.Word.{word, signedWord, bytesOf}
+use Rattle.survey.specs.Section.{placed, apart}
+use Rattle.survey.specs.Reading.{riseOf}
 use Rattle.survey.specs.Dimensions.{sumOf, sumsOver, lengthsFit, outerDiameter, wall, shellDiameter, headDiameter, diameterFits}
-use Rattle.survey.specs.Tests.{layoutTests, headerTests, courseTests, itemTests, dimensionTests, fileTests}
+use Rattle.survey.specs.Tests.{layoutTests, headerTests, courseTests, itemTests, seamTests, readingTests, dimensionTests, fileTests}
 use Rattle.survey.specs.Survey.{noItems, decodedBy, decoded}
 
--- the four bytes of a number, the lowest first
-abbrev bytes : ℕ → List ℕ
-bytes n = n % 256 ∷ n / 256 % 256 ∷ n / 65536 % 256 ∷ n / 16777216 % 256 ∷ []
+-- a course of this length, as round and as thick
+abbrev pub courseOf : ℕ → List ℕ
+courseOf length = 160221 ∷ 160221 ∷ length ∷ 500 ∷ []
 
-abbrev pub concat : List ℕ → List ℕ
-concat [] = []
-concat (n ∷ ns) = bytes n ++ concat ns
+abbrev each : (ℕ → List ℕ) → List ℕ → List ℕ
+each f [] = []
+each f (n ∷ ns) = f n ++ each f ns
 
--- with heads of this kind and length, and courses of these lengths in place of its one, each as round and as thick
+-- with heads of this kind and length, courses of these lengths in place of its one, and no seams on them
 abbrev sixRowsWith : (kind l3 : ℕ) → List ℕ → List ℕ
 sixRowsWith kind l3 lengths =
-    concat (kind ∷ 50000 ∷ 100000 ∷ 160221 ∷ 160221 ∷ 0 ∷ l3 ∷ 10000 ∷ length lengths ∷ 48 ∷ 0 ∷ 0 ∷ courses lengths)
-  where
-    courses : List ℕ → List ℕ
-    courses [] = []
-    courses (n ∷ ns) = 160221 ∷ 160221 ∷ n ∷ 500 ∷ courses ns
+    let count = length lengths in
+    bytesOf
+    (kind ∷ 50000 ∷ 100000 ∷ 160221 ∷ 160221 ∷ 0 ∷ l3 ∷ 10000 ∷ count ∷ 56 ∷ 0 ∷ 0 ∷ count ∷ (56 + 16 * count)
+    ∷ (each courseOf lengths ++ each (λ n. 0 ∷ 0 ∷ 0 ∷ []) lengths))
 
 abbrev pub sixRowsOf : List ℕ → List ℕ
 sixRowsOf lengths = sixRowsWith 0 0 lengths
@@ -75,9 +77,18 @@ longestCaps = sixRowsWith 2 25000 (100000 ∷ [])
 abbrev pub LongestCaps : Type 0
 LongestCaps = decoded longestCaps ≡ decodedBy Passed (sixRowsSurveyWith SphericalCap 25000)
 
-all-decoded : SixRows sixRows × MissingCourses × LongestCaps
-unfolding rowsOf nearest items kindKnown kindOf lengthFits word signedWord countFits placed apart sumOf sumsOver lengthsFit outerDiameter wall shellDiameter headDiameter diameterFits layoutTests headerTests courseTests itemTests dimensionTests fileTests decoded
-all-decoded = (refl, (refl, refl, refl, refl), refl)
+-- tape rise over weld seams (document 02, E4): with two seams of 2 mm by 12 mm the course's circumferences come out 86 u longer, 19 for the
+-- first term and 67 for the second; those at the shell's ends do not
+abbrev pub seamedRows : List ℕ
+seamedRows =
+    bytesOf
+    (0 ∷ 50000 ∷ 100000 ∷ 160221 ∷ 160221 ∷ 0 ∷ 0 ∷ 10000 ∷ 1 ∷ 56 ∷ 0 ∷ 0 ∷ 1 ∷ 72
+    ∷ 160307 ∷ 160307 ∷ 100000 ∷ 500
+    ∷ 2 ∷ 200 ∷ 1200 ∷ [])
+
+all-decoded : SixRows sixRows × MissingCourses × LongestCaps × SixRows seamedRows
+unfolding rowsOf nearest root rootOf items kindKnown kindOf lengthFits firstTerm secondTerm tapeRise word signedWord placed apart riseOf sumOf sumsOver lengthsFit outerDiameter wall shellDiameter headDiameter diameterFits layoutTests headerTests courseTests itemTests seamTests readingTests dimensionTests fileTests decoded
+all-decoded = (refl, (refl, refl, refl, refl), refl, refl)
 
 pub six-rows-decoded : SixRows sixRows
 six-rows-decoded = all-decoded .0
@@ -88,3 +99,6 @@ missing-courses-decoded = all-decoded .1
 
 pub longest-caps-decoded : LongestCaps
 longest-caps-decoded = all-decoded .2
+
+pub seamed-rows-decoded : SixRows seamedRows
+seamed-rows-decoded = all-decoded .3

@@ -18,20 +18,23 @@ use Rattle.heads.specs.Kind.{kindOf}
 use Rattle.heads.specs.Length.{shortestOf, longestOf}
 use Rattle.tank.specs.Limits.{longestShell, longestFlange}
 use Rattle.deadwood.specs.Item.{mostItems, largestVolume}
+use Rattle.seams.specs.Seam.{mostSeams, thickestSeam, widestSeam}
 use Rattle.survey.specs.declared.fault.Fault.{Fault}
 use Rattle.survey.specs.declared.field.Limits.{Limits}
 use Rattle.survey.specs.declared.format.Format.{Format}
 use Rattle.survey.specs.declared.section.Section.{Section}
 use Rattle.survey.specs.declared.section.Records.{Records}
-use Rattle.survey.specs.declared.section.Records.the-variants.{Courses, Deadwood}
+use Rattle.survey.specs.declared.section.Records.the-variants.{Courses, Deadwood, Seams}
 use Rattle.survey.specs.Word.{word, signedWord}
-use Rattle.survey.specs.Layout.{today, headerEnd, kindAt, dhAt, l1At, l3At, stepAt, coursesAt, deadwoodAt, highIn, volumeIn}
+use Rattle.survey.specs.Layout.{kindAt, dhAt, l1At, l3At, stepAt, coursesAt, deadwoodAt, seamsAt, lengthIn, highIn, volumeIn, hasSeams, wordsEnd}
+use Rattle.survey.specs.Format.{today}
 use Rattle.survey.specs.Limits.{largestFile, mostCourses, shortestCircumference, longestCircumference, shortestShell, shortestCourse, thinnest, thickest}
-use Rattle.survey.specs.Section.{courses, deadwood, sections, endOf, countFits, placed, apart, recordLong}
+use Rattle.survey.specs.Section.{courses, deadwood, seams, sections, seamItems, endOf, placed, apart, recordLong}
+use Rattle.survey.specs.Reading.{riseOf, corrected}
 use Rattle.survey.specs.Dimensions.{sumsOf, allowance, d1, d2, diameterFits}
-use Rattle.survey.specs.Sentence.{ofCourses, ofDeadwood, ofSize, ofLargeFile, ofOverlap, ofLengths, ofShellDiameter, ofHeadDiameter}
-use Rattle.survey.specs.Sentence.{ofHeadLength, ofLentTable, ofFallingRow, ofRowBelowZero, ofUnknown}
-use Rattle.survey.specs.Tests.{layoutTests, numberTests}
+use Rattle.survey.specs.Sentence.{ofCourses, ofDeadwood, ofSeams, ofSize, ofLargeFile, ofOverlap, ofSeamsOverCourses, ofSeamsOverDeadwood, ofCorrected}
+use Rattle.survey.specs.Sentence.{ofLengths, ofShellDiameter, ofHeadDiameter, ofHeadLength, ofLentTable, ofFallingRow, ofRowBelowZero, ofUnknown}
+use Rattle.survey.specs.Tests.{layoutTests, limitTests, correctedTests}
 
 abbrev pub faultWith : (sentence item value low high : ℕ) → Fault
 faultWith sentence item value low high = record { sentence = sentence; item = item; value = pos value; low = pos low; high = pos high }
@@ -63,7 +66,7 @@ lengthLimits kind = limits (shortestOf kind) (longestOf kind)
 abbrev pub offsetLimits : Format → List ℕ → Limits
 offsetLimits f s = limits (f .header) (min (length s) largestFile)
 
--- of the header's words, in their order
+-- of the header's words, in their order; a format that has no seams lacks the last two
 unfoldable pub headerLimits : Format → List ℕ → List Limits
 headerLimits f s =
     limits 0 2
@@ -78,6 +81,8 @@ headerLimits f s =
     ∷ offsetLimits f s
     ∷ limits 0 mostItems
     ∷ offsetLimits f s
+    ∷ limits (seamItems f s) (seamItems f s)
+    ∷ offsetLimits f s
     ∷ []
 
 -- one of a list of limits
@@ -86,26 +91,53 @@ limitsAt list w = getD list w (limits 0 0)
 
 -- the byte offset of a section counts the records that start there, whose count stands before it
 abbrev pub headerItem : List ℕ → ℕ → ℕ
-headerItem s at = pick (eqb at (coursesAt + 4) || eqb at (deadwoodAt + 4)) (word s (at - 4)) 0
+headerItem s at = pick (eqb at (coursesAt + 4) || (eqb at (deadwoodAt + 4) || eqb at (seamsAt + 4))) (word s (at - 4)) 0
+
+-- the number at a byte, which misses these limits
+abbrev pub wordFault : ℕ → Limits → List ℕ → (at item : ℕ) → Fault
+wordFault sentence of s at item = faultWith sentence item (word s at) (of .low) (of .high)
 
 -- the header's number at a byte
 unfoldable pub headerFault : Format → List ℕ → ℕ → Fault
-headerFault f s at =
-    let of = limitsAt (headerLimits f s) (at / 4) in
-    faultWith (at / 4) (headerItem s at) (word s at) (of .low) (of .high)
+headerFault f s at = wordFault (at / 4) (limitsAt (headerLimits f s) (at / 4)) s at (headerItem s at)
+
+-- what the first test that fails is about, else the last of them
+abbrev pub firstOf : List (Bool × Fault) → Fault → Fault
+firstOf [] last = last
+firstOf (x ∷ xs) last = pick (x .0) (firstOf xs last) (x .1)
+
+-- the header's number at a byte of the deadwood's words, and at the same byte of the seams' where the format has them
+abbrev pub lastFault : Format → List ℕ → ℕ → Fault
+lastFault f s k = pick (hasSeams f) (headerFault f s (seamsAt + k)) (headerFault f s (deadwoodAt + k))
 
 -- refusal 2: the first count that is outside its limits
-unfoldable pub countFault : Format → List ℕ → Fault
-countFault f s = pick (countFits Courses (courses f s .count)) (headerFault f s deadwoodAt) (headerFault f s coursesAt)
 
--- refusal 3: the courses, then what both have, then the deadwood
+abbrev pub countFaults : Format → List ℕ → List (Bool × Fault)
+countFaults f s =
+    (within 1 (courses f s .count) mostCourses, headerFault f s coursesAt)
+    ∷ (within 0 (deadwood f s .count) mostItems, headerFault f s deadwoodAt)
+    ∷ []
+
+unfoldable pub countFault : Format → List ℕ → Fault
+countFault f s = firstOf (countFaults f s) (lastFault f s 0)
+
+-- a section overlaps one before it in the header
+abbrev pub overlap : ℕ → Section → Fault
+overlap sentence x = faultWith sentence (x .count) (x .offset) 0 0
+
+-- refusal 3, as its tests are ordered: a section's place, and then which of those behind it in the header overlap it
+
+abbrev pub placeFaults : Format → List ℕ → List (Bool × Fault)
+placeFaults f s =
+    (placed (f .header) (length s) (courses f s), headerFault f s (coursesAt + 4))
+    ∷ (apart (courses f s) (deadwood f s), overlap ofOverlap (deadwood f s))
+    ∷ (apart (courses f s) (seams f s), overlap ofSeamsOverCourses (seams f s))
+    ∷ (placed (f .header) (length s) (deadwood f s), headerFault f s (deadwoodAt + 4))
+    ∷ (apart (deadwood f s) (seams f s), overlap ofSeamsOverDeadwood (seams f s))
+    ∷ []
+
 unfoldable pub placeFault : Format → List ℕ → Fault
-placeFault f s =
-    pick (placed (f .header) (length s) (courses f s))
-    (pick (apart (courses f s) (deadwood f s))
-    (headerFault f s (deadwoodAt + 4))
-    (faultWith ofOverlap (deadwood f s .count) (deadwood f s .offset) 0 0))
-    (headerFault f s (coursesAt + 4))
+placeFault f s = firstOf (placeFaults f s) (lastFault f s 4)
 
 -- the records: the number at byte `at`, which is byte k of record `item` as one counts them from 1
 
@@ -113,9 +145,7 @@ abbrev pub courseLimits : List Limits
 courseLimits = circumference ∷ circumference ∷ limits shortestCourse longestShell ∷ limits thinnest thickest ∷ []
 
 unfoldable pub courseFault : List ℕ → (at item k : ℕ) → Fault
-courseFault s at item k =
-    let of = limitsAt courseLimits (k / 4) in
-    faultWith (ofCourses + k / 4) item (word s at) (of .low) (of .high)
+courseFault s at item k = wordFault (ofCourses + k / 4) (limitsAt courseLimits (k / 4)) s at item
 
 -- a volume has a sign
 unfoldable pub volumeFault : List ℕ → (at item : ℕ) → Fault
@@ -134,9 +164,16 @@ itemFault s at item k =
     pick (eqb k volumeIn) (volumeFault s at item)
     (faultWith (ofDeadwood + k / 4) item (word s at) 0 (pick (eqb k highIn) (word s dhAt) 0))
 
+abbrev pub seamLimits : List Limits
+seamLimits = limits 0 mostSeams ∷ limits 0 thickestSeam ∷ limits 0 widestSeam ∷ []
+
+unfoldable pub seamFault : List ℕ → (at item k : ℕ) → Fault
+seamFault s at item k = wordFault (ofSeams + k / 4) (limitsAt seamLimits (k / 4)) s at item
+
 abbrev pub recordFault : Records → List ℕ → (at item k : ℕ) → Fault
 recordFault Courses s at item k = courseFault s at item k
 recordFault Deadwood s at item k = itemFault s at item k
+recordFault Seams s at item k = seamFault s at item k
 
 -- the byte lies in the section
 abbrev pub holds : Section → ℕ → Bool
@@ -146,7 +183,7 @@ holds x place = leb (x .offset) place && ltb place (endOf x)
 abbrev pub startsWord : (k end : ℕ) → Bool
 startsWord k end = eqb (k % 4) 0 && ltb k end
 
--- refusal 5: the number at a byte of a section ..
+-- refusal 5 of a number as it stands: the one at a byte of a section ..
 unfoldable pub fieldFault : Section → List ℕ → ℕ → Fault
 fieldFault x s place =
     let behind = place - x .offset in
@@ -159,22 +196,42 @@ sectionsFault [] s place = unknown 5 place
 sectionsFault (x ∷ xs) s place = pick (holds x place) (fieldFault x s place) (sectionsFault xs s place)
 
 -- .. and of the header, which is before them all
-unfoldable pub numberFault : Format → List ℕ → ℕ → Fault
-numberFault f s place =
+unfoldable pub limitFault : Format → List ℕ → ℕ → Fault
+limitFault f s place =
     pick (leb (place + 4) (length s))
     (pick (ltb place (f .header))
-    (pick (startsWord place headerEnd) (headerFault f s place) (unknown 5 place))
+    (pick (startsWord place (wordsEnd f)) (headerFault f s place) (unknown 5 place))
     (sectionsFault (sections f s) s place))
     (unknown 5 place)
 
--- refusals 6, 7 and 14, which are given to no file but one that passes the first five
+-- refusal 5 of a circumference of a course, less the tape rise: the one at a byte, which is byte k of course i
+abbrev pub correctedFault : Format → List ℕ → (at i k : ℕ) → Fault
+correctedFault f s at i k =
+    faultWith (ofCorrected + k / 4) (i + 1) (corrected (word s at) (riseOf f s i)) shortestCircumference longestCircumference
+
+unfoldable pub readingFault : Format → List ℕ → ℕ → Fault
+readingFault f s place =
+    let x = courses f s in
+    let behind = place - x .offset in
+    let k = behind % x .size in
+    pick (holds x place && startsWord k lengthIn) (correctedFault f s place (behind / x .size) k) (unknown 5 place)
 
 abbrev pub passed : Verdict → Bool
 passed Passed = true
 passed (Refused r) = false
 
+-- whether a file passes refusals 1 to 4, and 5 of every number as it stands
+unfoldable pub limitsPass : Format → List ℕ → Bool
+limitsPass f s = within (f .header) (length s) largestFile && (passed (verdict (layoutTests f s)) && passed (verdict (limitTests f s)))
+
+-- refusal 5: of a file that does, no number is left to refuse but a corrected reading
+unfoldable pub numberFault : Format → List ℕ → ℕ → Fault
+numberFault f s place = pick (limitsPass f s) (readingFault f s place) (limitFault f s place)
+
+-- refusals 6, 7 and 14, which are given to no file but one that passes the first five
+
 unfoldable pub numbersPass : Format → List ℕ → Bool
-numbersPass f s = within (f .header) (length s) largestFile && (passed (verdict (layoutTests f s)) && passed (verdict (numberTests f s)))
+numbersPass f s = limitsPass f s && passed (verdict (correctedTests f s))
 
 unfoldable pub lengthsFault : Format → List ℕ → Fault
 lengthsFault f s =

@@ -4,7 +4,7 @@ use Prim.Native.Nat.{ℕ, _+_, _*_, _-_, _/_, _%_, _≤_, _<_}
 use mathlib.Core.Path.{_≡_, refl, _∙_, ap}
 use mathlib.Core.Bool.{Bool, true, false, _||_}
 use mathlib.Core.List.{List, [], _∷_, map, List·Memᴰ, List·Memᴰ·head, List·Memᴰ·tail}
-use native.Mathlib.Nat.{mul-le-mul-left, div-eq-of-lt-le, div-add-mod'}
+use native.Mathlib.Nat.{mul-le-mul-left, div-eq-of-lt-le, div-add-mod', div-lt-iff-lt-mul}
 use native.Mathlib.Omega.{arith}
 use borrow.Author.Tests.{ltb-true, leb-true, eqb-true, lt-ltb, le-ltb, le-leb, eq-eqb}
 use lib.Dec.{leb, ltb, eqb}
@@ -21,16 +21,26 @@ use Rattle.survey.specs.declared.fault.Fault.{Fault}
 use Rattle.survey.specs.declared.format.Format.{Format}
 use Rattle.survey.specs.declared.section.Section.{Section}
 use Rattle.survey.specs.declared.section.Records.{Records}
-use Rattle.survey.specs.declared.section.Records.the-variants.{Courses, Deadwood}
+use Rattle.survey.specs.declared.section.Records.the-variants.{Courses, Deadwood, Seams}
 use Rattle.survey.specs.Word.{word}
-use Rattle.survey.specs.Layout.{headerEnd, kindAt, dhAt, l1At, leftAt, rightAt, l2At, l3At, stepAt, coursesAt, deadwoodAt}
+use Rattle.survey.specs.Layout.{headerEnd, seamHeaderEnd, kindAt, dhAt, l1At, leftAt, rightAt, l2At, l3At, stepAt, coursesAt, deadwoodAt, seamsAt, hasSeams, wordsEnd}
+use Rattle.survey.specs.Limits.{mostCourses, shortestCircumference, longestCircumference}
+use Rattle.deadwood.specs.Item.{mostItems}
 use Rattle.survey.specs.Layout.{firstIn, secondIn, lengthIn, thicknessIn, volumeIn}
-use Rattle.survey.specs.Section.{courses, deadwood, sections, recordAt, endOf, countFits, placed, apart, recordLong}
+use Rattle.survey.specs.Section.{courses, deadwood, seams, sections, seamItems, recordAt, endOf, placed, apart, recordLong}
 use Rattle.survey.specs.SectionLaws.{Readable, placed-inside}
-use Rattle.survey.specs.Sentence.{ofCourses, ofDeadwood}
-use Rattle.survey.specs.Tests.{apartTests, placeTests, headerTests, courseTests}
-use Rattle.survey.specs.Fault.{lengthLimits, headerLimits, courseLimits, limitsAt, headerFault, courseFault, volumeFault, itemFault, recordFault}
-use Rattle.survey.specs.Fault.{holds, startsWord, fieldFault, sectionsFault, numberFault, headedFault, faultAs}
+use Rattle.survey.specs.Sentence.{ofCourses, ofDeadwood, ofSeams, ofCorrected}
+use Rattle.survey.specs.Reading.{riseOf, corrected}
+use Rattle.survey.specs.Tests.{apartTests, placeTests, headerTests, courseTests, readingTests}
+use Rattle.survey.specs.Fault.{faultWith, lengthLimits, headerLimits, courseLimits, limitsAt, headerFault, courseFault, volumeFault, itemFault, seamFault, recordFault}
+use Rattle.survey.specs.Fault.{holds, startsWord, fieldFault, sectionsFault, limitFault, readingFault, limitsPass, numberFault, headedFault, faultAs}
+
+-- a format's last word ends inside its header
+pub words-end : (f : Format) → Readable f → (headerEnd ≤ wordsEnd f) × (wordsEnd f ≤ f .header)
+words-end f readable =
+    by-test (hasSeams f)
+    (λ has. rw has (omega arith, leb-true seamHeaderEnd (f .header) has))
+    (λ none. rw none (omega arith, readable .header))
 
 starts-word : (k end : ℕ) → k % 4 ≡ 0 → k < end → startsWord k end ≡ true
 starts-word k end whole inside = rw (eq-eqb (k % 4) 0 whole, lt-ltb k end inside)
@@ -40,31 +50,49 @@ starts-word k end whole inside = rw (eq-eqb (k % 4) 0 whole, lt-ltb k end inside
 abbrev pub ofRecords : Records → ℕ
 ofRecords Courses = ofCourses
 ofRecords Deadwood = ofDeadwood
+ofRecords Seams = ofSeams
 
 record-sentence : (records : Records) (s : List ℕ) (at item w : ℕ)
     → (recordFault records s at item (4 * w) .sentence ≡ ofRecords records + w) × (recordFault records s at item (4 * w) .item ≡ item)
-unfolding courseFault volumeFault itemFault
+unfolding courseFault volumeFault itemFault seamFault
 record-sentence Courses s at item w = (omega arith, refl)
 record-sentence Deadwood s at item w =
     by-test (eqb (4 * w) volumeIn)
     (λ e. rw e (omega (arith, eqb-true (4 * w) volumeIn e), refl))
     (λ e. rw e (omega arith, refl))
+record-sentence Seams s at item w = (omega arith, refl)
 
 -- word w of record i of a section
 module _ (x : Section) (s : List ℕ) (i w : ℕ) (long : recordLong (x .records) ≤ x .size) (inside : 4 * w + 4 ≤ recordLong (x .records)) where
+  field-behind : recordAt x i + 4 * w - x .offset ≡ i * x .size + 4 * w
+  field-behind = omega arith
+
+  field-item : (i * x .size + 4 * w) / x .size ≡ i
+  field-item = div-eq-of-lt-le (x .size) (omega arith) (omega arith)
+
+  field-byte : (i * x .size + 4 * w) % x .size ≡ 4 * w
+  field-byte = omega (arith, rw field-item at (div-add-mod' (i * x .size + 4 * w) (x .size)))
+
   field-number : fieldFault x s (recordAt x i + 4 * w) ≡ recordFault (x .records) s (recordAt x i + 4 * w) (i + 1) (4 * w)
   unfolding fieldFault
-  field-number =
-      let behind : recordAt x i + 4 * w - x .offset ≡ i * x .size + 4 * w = omega arith in
-      let which : (i * x .size + 4 * w) / x .size ≡ i = div-eq-of-lt-le (x .size) (omega arith) (omega arith) in
-      let byte : (i * x .size + 4 * w) % x .size ≡ 4 * w = omega (arith, rw which at (div-add-mod' (i * x .size + 4 * w) (x .size))) in
-      rw (behind, which, byte, starts-word (4 * w) (recordLong (x .records)) (omega arith) (omega arith))
+  field-number = rw (field-behind, field-item, field-byte, starts-word (4 * w) (recordLong (x .records)) (omega arith) (omega arith))
 
   field-held : i < x .count → holds x (recordAt x i + 4 * w) ≡ true
   field-held l =
       let one-more : i + 1 ≤ x .count = omega arith in
       let last : recordAt x i + 4 * w < endOf x = omega (arith, mul-le-mul-left (x .size) one-more) in
       rw (le-leb (x .offset) (recordAt x i + 4 * w) (omega arith), lt-ltb (recordAt x i + 4 * w) (endOf x) last)
+
+-- the record of a section that has a byte, and the byte's place in it
+pub held-record : (x : Section) (place : ℕ) → 0 < x .size → holds x place ≡ true
+    → let n = place - x .offset in
+    (x .offset ≤ place) × (n / x .size < x .count) × (recordAt x (n / x .size) + n % x .size ≡ place)
+held-record x place some e =
+    let halves = both-pass (leb (x .offset) place) (ltb place (endOf x)) e in
+    let low = leb-true (x .offset) place (halves .0) in
+    let n = place - x .offset in
+    let inside : n < x .count * x .size = omega (arith, ltb-true place (endOf x) (halves .1)) in
+    (low, div-lt-iff-lt-mul {k = x .size} {x = n} {y = x .count} some .1 inside, omega (arith, div-add-mod' n (x .size)))
 
 -- of the sections that are apart, the one that has a byte is the first that has it
 
@@ -106,35 +134,37 @@ module _ (header : ℕ) (s : List ℕ) (x : Section) where
       let behind = placed-first ys (rest .1) m in
       (behind .0, λ place h. rw (held-once y x place (apart-from y ys x (rest .0) m) h) (behind .1 place h))
 
--- a file in a format, with its header
-module _ (f : Format) (s : List ℕ) (readable : Readable f) (header : f .header ≤ length s) where
-  number-refused : (place : ℕ) → faultAs f s 5 place ≡ numberFault f s place
-  unfolding headedFault faultAs
-  number-refused place = rw (le-leb (f .header) (length s) header)
+-- a file in a format, with its header, of which a number as it stands is refused
+module _ (f : Format) (s : List ℕ) (readable : Readable f) (header : f .header ≤ length s) (refused : limitsPass f s ≡ false) where
+  number-refused : (place : ℕ) → faultAs f s 5 place ≡ limitFault f s place
+  unfolding numberFault headedFault faultAs
+  number-refused place = rw (le-leb (f .header) (length s) header, refused)
 
-  header-number : (w : ℕ) → 4 * w + 4 ≤ headerEnd → faultAs f s 5 (4 * w) ≡ headerFault f s (4 * w)
-  unfolding numberFault
+  header-number : (w : ℕ) → 4 * w + 4 ≤ wordsEnd f → faultAs f s 5 (4 * w) ≡ headerFault f s (4 * w)
+  unfolding limitFault
   header-number w inside =
+      let long = words-end f readable in
       number-refused (4 * w)
       ∙ rw (
-        le-leb (4 * w + 4) (length s) (omega (arith, readable .header)),
-        lt-ltb (4 * w) (f .header) (omega (arith, readable .header)),
-        starts-word (4 * w) headerEnd (omega arith) (omega arith),
+        le-leb (4 * w + 4) (length s) (omega arith),
+        lt-ltb (4 * w) (f .header) (omega arith),
+        starts-word (4 * w) (wordsEnd f) (omega arith) (omega arith),
       )
 
-  pub every-header-word-named : (w : ℕ) → 4 * w + 4 ≤ headerEnd → faultAs f s 5 (4 * w) .sentence ≡ w
+  pub every-header-word-named : (w : ℕ) → 4 * w + 4 ≤ wordsEnd f → faultAs f s 5 (4 * w) .sentence ≡ w
   unfolding headerFault
   every-header-word-named w inside = ap (λ (r : Fault). r .sentence) (header-number w inside) ∙ omega arith
 
   record-long : (x : Section) → List·Memᴰ x (sections f s) → recordLong (x .records) ≤ x .size
   record-long x (List·Memᴰ·head e) = rw e (readable .course)
   record-long x (List·Memᴰ·tail (List·Memᴰ·head e)) = rw e (readable .deadwood)
+  record-long x (List·Memᴰ·tail (List·Memᴰ·tail (List·Memᴰ·head e))) = rw e (readable .seam)
 
   -- .. that refusal 3 is not given to, and word w of record i of a section of it
   module _ (passed : verdict (placeTests (f .header) (length s) (sections f s)) ≡ Passed)
       (x : Section) (of : List·Memᴰ x (sections f s)) (i : ℕ) (l : i < x .count) (w : ℕ) (inside : 4 * w + 4 ≤ recordLong (x .records)) where
     record-number : faultAs f s 5 (recordAt x i + 4 * w) ≡ recordFault (x .records) s (recordAt x i + 4 * w) (i + 1) (4 * w)
-    unfolding numberFault
+    unfolding limitFault
     record-number =
         let at = recordAt x i + 4 * w in
         let long = record-long x of in
@@ -156,38 +186,49 @@ pub length-within : (kind : HeadKind) (l : ℕ) → lengthFits kind l ≡ within
 unfolding lengthFits
 length-within kind l = refl
 
-module _ (f : Format) (s : List ℕ) (readable : Readable f) (header : f .header ≤ length s) where
-  header-named : (w : ℕ) → 4 * w + 4 ≤ headerEnd
+module _ (f : Format) (s : List ℕ) (readable : Readable f) (header : f .header ≤ length s) (refused : limitsPass f s ≡ false) where
+  header-named : (w : ℕ) → 4 * w + 4 ≤ wordsEnd f
       → let of = limitsAt (headerLimits f s) w in withinNamed f s (4 * w) ≡ within (of .low) (word s (4 * w)) (of .high)
   unfolding headerFault
   header-named w inside =
       let whole : 4 * w / 4 ≡ w = omega arith in
-      rw (header-number f s readable header w inside, whole)
+      rw (header-number f s readable header refused w inside, whole)
+
+  -- of a word that every format has
+  common : (w : ℕ) → 4 * w + 4 ≤ headerEnd → 4 * w + 4 ≤ wordsEnd f
+  common w inside = let long = words-end f readable in omega arith
 
   pub header-limits-are-tested : headerTests s ≡ map (λ at. test 5 at (withinNamed f s at)) (dhAt ∷ l1At ∷ leftAt ∷ rightAt ∷ l2At ∷ l3At ∷ stepAt ∷ [])
   unfolding headerTests headerLimits
   header-limits-are-tested =
       rw (
-        header-named 1 (omega arith),
-        header-named 2 (omega arith),
-        header-named 3 (omega arith),
-        header-named 4 (omega arith),
-        header-named 5 (omega arith),
-        header-named 6 (omega arith),
-        header-named 7 (omega arith),
+        header-named 1 (common 1 (omega arith)),
+        header-named 2 (common 2 (omega arith)),
+        header-named 3 (common 3 (omega arith)),
+        header-named 4 (common 4 (omega arith)),
+        header-named 5 (common 5 (omega arith)),
+        header-named 6 (common 6 (omega arith)),
+        header-named 7 (common 7 (omega arith)),
         length-within (kindOf (word s kindAt)) (word s l3At),
       )
 
   -- of the counts (refusal 2) and the kind of head (refusal 4)
-  pub layout-limits-are-tested : (countFits Courses (courses f s .count) ≡ withinNamed f s coursesAt)
-      × (countFits Deadwood (deadwood f s .count) ≡ withinNamed f s deadwoodAt)
+  pub layout-limits-are-tested : (within 1 (courses f s .count) mostCourses ≡ withinNamed f s coursesAt)
+      × (within 0 (deadwood f s .count) mostItems ≡ withinNamed f s deadwoodAt)
       × (kindKnown (word s kindAt) ≡ withinNamed f s kindAt)
-  unfolding countFits kindKnown headerLimits
+  unfolding kindKnown headerLimits
   layout-limits-are-tested = (
-    rw (header-named 8 (omega arith)),
-    rw (header-named 10 (omega arith), le-leb 0 (deadwood f s .count) (omega arith)),
-    rw (header-named 0 (omega arith), le-leb 0 (word s kindAt) (omega arith)),
+    rw (header-named 8 (common 8 (omega arith))),
+    rw (header-named 10 (common 10 (omega arith))),
+    rw (header-named 0 (common 0 (omega arith)), le-leb 0 (word s kindAt) (omega arith)),
   )
+
+  -- .. and of the seams, where the format has them
+  pub seam-count-limits-are-tested : hasSeams f ≡ true → within (seamItems f s) (seams f s .count) (seamItems f s) ≡ withinNamed f s seamsAt
+  unfolding headerLimits
+  seam-count-limits-are-tested has =
+      let inside : 4 * 12 + 4 ≤ wordsEnd f = rw has (omega arith) in
+      rw (header-named 12 inside, has)
 
   -- of the courses, where refusal 3 is not given
   module _ (passed : verdict (placeTests (f .header) (length s) (sections f s)) ≡ Passed) (i : ℕ) (l : i < courses f s .count) where
@@ -198,9 +239,40 @@ module _ (f : Format) (s : List ℕ) (readable : Readable f) (header : f .header
     unfolding courseFault
     course-named w inside =
         let whole : 4 * w / 4 ≡ w = omega arith in
-        rw (record-number f s readable header passed (courses f s) (List·Memᴰ·head refl) i l w inside, whole)
+        rw (record-number f s readable header refused passed (courses f s) (List·Memᴰ·head refl) i l w inside, whole)
 
     pub course-limits-are-tested : let at = recordAt (courses f s) i in
         courseTests s at ≡ map (λ k. test 5 (at + k) (withinNamed f s (at + k))) (firstIn ∷ secondIn ∷ lengthIn ∷ thicknessIn ∷ [])
     unfolding courseTests
     course-limits-are-tested = rw (course-named 0 (omega arith), course-named 1 (omega arith), course-named 2 (omega arith), course-named 3 (omega arith))
+
+-- a file of which every number is within its limits as it stands, and word w of course i less the tape rise
+module _ (f : Format) (s : List ℕ) (readable : Readable f) (header : f .header ≤ length s) (pass : limitsPass f s ≡ true) (i : ℕ) (l : i < courses f s .count) where
+  pub every-corrected-reading-named : (w : ℕ) → 4 * w + 4 ≤ lengthIn
+      → let at = recordAt (courses f s) i + 4 * w in
+      faultAs f s 5 at ≡ faultWith (ofCorrected + w) (i + 1) (corrected (word s at) (riseOf f s i)) shortestCircumference longestCircumference
+  unfolding readingFault numberFault headedFault faultAs
+  every-corrected-reading-named w inside =
+      let x = courses f s in
+      let long = readable .course in
+      let whole : 4 * w / 4 ≡ w = omega arith in
+      rw (
+        le-leb (f .header) (length s) header,
+        pass,
+        field-held x s i w long (omega arith) l,
+        field-behind x s i w long (omega arith),
+        field-item x s i w long (omega arith),
+        field-byte x s i w long (omega arith),
+        starts-word (4 * w) lengthIn (omega arith) (omega arith),
+        whole,
+      )
+
+  -- the number and the limits that its refusal names are those of the test
+
+  abbrev namedWithin : ℕ → Bool
+  namedWithin at = let r = faultAs f s 5 at in within (natAbs (r .low)) (natAbs (r .value)) (natAbs (r .high))
+
+  pub reading-limits-are-tested : let at = recordAt (courses f s) i in
+      readingTests s at (riseOf f s i) ≡ map (λ k. test 5 (at + k) (namedWithin (at + k))) (firstIn ∷ secondIn ∷ [])
+  unfolding readingTests
+  reading-limits-are-tested = rw (every-corrected-reading-named 0 (omega arith), every-corrected-reading-named 1 (omega arith))

@@ -21,12 +21,13 @@ use Rattle.heads.specs.Kind.{kindKnown, kindOf}
 use Rattle.heads.specs.Length.{longest, lengthFits, fitsDiameter}
 use Rattle.survey.specs.declared.format.Format.{Format}
 use Rattle.survey.specs.Word.{word}
-use Rattle.survey.specs.Layout.{today, kindAt, dhAt, l1At, l3At}
+use Rattle.survey.specs.Layout.{kindAt, dhAt, l1At, l3At}
+use Rattle.survey.specs.Format.{today}
 use Rattle.survey.specs.Dimensions.{sumsOf, lengthsFit, d1, d2, diametersFit}
 use Rattle.survey.specs.Tests.{dimensionTests}
 use Rattle.survey.specs.Survey.{decoded}
 use Rattle.survey.specs.Fault.{numbersPass, headLengthFault}
-use Rattle.survey.specs.SurveyLaws.{NumbersFit, head-length-fits}
+use Rattle.survey.specs.FitLaws.{LimitsFit, head-length-fits}
 use Rattle.survey.specs.DimensionLaws.{kind-known, decoded-by-dimensions}
 
 -- by the number of the kind: no other kind is too long for D2
@@ -59,7 +60,7 @@ module _ (s : List ℕ) (numbers : numbersPass today s ≡ true) (lengths : leng
       }
 
 -- the limits that refusal 14 names are those of the test
-pub head-length-limits-are-tested : (f : Format) (s : List ℕ) → NumbersFit f s → kindOf (word s kindAt) ≡ SphericalCap
+pub head-length-limits-are-tested : (f : Format) (s : List ℕ) → LimitsFit f s → kindOf (word s kindAt) ≡ SphericalCap
     → let r = headLengthFault f s in
     fitsDiameter SphericalCap (d2 f s) (word s l3At) ≡ within (natAbs (r .low)) (natAbs (r .value)) (natAbs (r .high))
 unfolding lengthFits headLengthFault

@@ -5,26 +5,35 @@ use mathlib.Core.Path.{_≡_, refl, _∙_, ap, ap₂}
 use mathlib.Core.List.{List, [], _∷_, _++_, List·Memᴰ, List·Memᴰ·head, List·Memᴰ·tail}
 use native.Mathlib.Nat.{mul-le-mul-left}
 use native.Mathlib.Omega.{arith}
+use borrow.Author.Tests.{leb-true, ltb-true}
+use lib.Dec.{ltb}
 use lib.ListN.{length, getD}
+use Rattle.laws.specs.BoolLaws.{by-test}
+use Rattle.laws.specs.Order.{pick}
 use Rattle.laws.specs.Fill.{rowsOf}
 use Rattle.laws.specs.FillLaws.{rowsOf-agree}
-use Rattle.refusal.specs.Test.{verdict, test, within}
+use Rattle.refusal.specs.Test.{verdict, test, items, within}
 use Rattle.refusal.specs.TestLaws.{items-agree}
 use Rattle.heads.specs.Kind.{kindKnown}
+use Rattle.seams.specs.Seam.{noSeam}
+use Rattle.seams.specs.Rise.{tapeRise}
 use Rattle.survey.specs.declared.format.Format.{Format}
 use Rattle.survey.specs.declared.section.Section.{Section}
 use Rattle.survey.specs.declared.section.Records.{Records}
-use Rattle.survey.specs.declared.section.Records.the-variants.{Courses, Deadwood}
+use Rattle.survey.specs.declared.section.Records.the-variants.{Courses, Deadwood, Seams}
 use Rattle.survey.specs.Word.{word, signedWord}
-use Rattle.survey.specs.Layout.{today, headerEnd, kindAt, dhAt, l1At, leftAt, rightAt, l2At, l3At, stepAt, coursesAt, deadwoodAt}
-use Rattle.survey.specs.Layout.{courseEnd, itemEnd, firstIn, secondIn, lengthIn, thicknessIn, lowIn, highIn, volumeIn}
+use Rattle.survey.specs.Layout.{headerEnd, kindAt, dhAt, l1At, leftAt, rightAt, l2At, l3At, stepAt, coursesAt, deadwoodAt, seamsAt}
+use Rattle.survey.specs.Format.{today}
+use Rattle.survey.specs.Layout.{seamHeaderEnd, courseEnd, itemEnd, seamEnd, firstIn, secondIn, lengthIn, thicknessIn, lowIn, highIn, volumeIn}
+use Rattle.survey.specs.Layout.{seamNumberIn, seamThicknessIn, seamWidthIn, hasSeams}
 use Rattle.survey.specs.Limits.{largestFile}
-use Rattle.survey.specs.Section.{courses, deadwood, sections, recordAt, endOf, placed, recordLong}
+use Rattle.survey.specs.Section.{courses, deadwood, seamWord, seams, sections, recordAt, endOf, placed, recordLong}
 use Rattle.survey.specs.SectionLaws.{Readable}
 use Rattle.survey.specs.Item.{itemFrom}
+use Rattle.survey.specs.Reading.{seamFrom, seamOf, riseOf}
 use Rattle.survey.specs.Dimensions.{sumOf, added, sumsOver, sumsOf, shellDiameter, d1, d2}
-use Rattle.survey.specs.Tests.{countTests, apartTests, placeTests, layoutTests, headerTests, numberTests, dimensionTests, fileTests}
-use Rattle.survey.specs.Tests.{courseTests, itemTests, recordTests, sectionTests}
+use Rattle.survey.specs.Tests.{countTests, apartTests, placeTests, layoutTests, headerTests, limitTests, correctedTests, numberTests, dimensionTests, fileTests}
+use Rattle.survey.specs.Tests.{courseTests, itemTests, seamTests, readingTests, recordTests, sectionTests}
 use Rattle.survey.specs.Survey.{itemsOf, surveyOf, decodedBy, decodedAs, decoded}
 use Rattle.survey.specs.SurveyLaws.{today-readable}
 
@@ -61,14 +70,17 @@ module _ (s s′ : List ℕ) where
   word-of-record : (at long k : ℕ) → SameBytes s s′ at (at + long) → k + 4 ≤ long → word s (at + k) ≡ word s′ (at + k)
   word-of-record at long k bytes high = word-agrees at (at + long) (at + k) bytes (omega arith) (omega arith)
 
-  course-agrees : (at : ℕ) → SameBytes s s′ at (at + courseEnd) → (courseTests s at ≡ courseTests s′ at) × (sumOf s at ≡ sumOf s′ at)
-  unfolding courseTests sumOf
+  course-agrees : (at : ℕ) → SameBytes s s′ at (at + courseEnd)
+      → (courseTests s at ≡ courseTests s′ at)
+      × ((rise : ℕ) → readingTests s at rise ≡ readingTests s′ at rise)
+      × ((rise : ℕ) → sumOf s at rise ≡ sumOf s′ at rise)
+  unfolding courseTests readingTests sumOf
   course-agrees at bytes =
       let first = word-of-record at courseEnd firstIn bytes (omega arith) in
       let second = word-of-record at courseEnd secondIn bytes (omega arith) in
       let length = word-of-record at courseEnd lengthIn bytes (omega arith) in
       let thickness = word-of-record at courseEnd thicknessIn bytes (omega arith) in
-      (cc, cc)
+      (rw (first, second, length, thickness), λ rise. rw (first, second), λ rise. rw (first, second, length, thickness))
 
   item-agrees : (at : ℕ) → SameBytes s s′ at (at + itemEnd) → itemFrom s at ≡ itemFrom s′ at
   item-agrees at bytes =
@@ -77,11 +89,20 @@ module _ (s s′ : List ℕ) where
       let volume = signed-agrees (at + volumeIn) (word-of-record at itemEnd volumeIn bytes (omega arith)) in
       cc
 
+  seam-agrees : (at : ℕ) → SameBytes s s′ at (at + seamEnd) → (seamTests s at ≡ seamTests s′ at) × (seamFrom s at ≡ seamFrom s′ at)
+  unfolding seamTests
+  seam-agrees at bytes =
+      let number = word-of-record at seamEnd seamNumberIn bytes (omega arith) in
+      let thickness = word-of-record at seamEnd seamThicknessIn bytes (omega arith) in
+      let width = word-of-record at seamEnd seamWidthIn bytes (omega arith) in
+      (rw (number, thickness, width), rw (number, thickness, width))
+
   record-agrees : (records : Records) (at : ℕ) → word s dhAt ≡ word s′ dhAt → SameBytes s s′ at (at + recordLong records)
       → recordTests records s at ≡ recordTests records s′ at
   unfolding itemTests
   record-agrees Courses at dh bytes = course-agrees at bytes .0
   record-agrees Deadwood at dh bytes = let item = item-agrees at bytes in cc
+  record-agrees Seams at dh bytes = seam-agrees at bytes .0
 
   -- a section whose bytes agree
   module _ (x : Section) (bytes : SameBytes s s′ (x .offset) (endOf x)) where
@@ -93,12 +114,6 @@ module _ (s s′ : List ℕ) where
     section-agrees : recordLong (x .records) ≤ x .size → word s dhAt ≡ word s′ dhAt → sectionTests s x ≡ sectionTests s′ x
     section-agrees fits dh =
         items-agree (x .count) _ _ (λ i l. record-agrees (x .records) (recordAt x i) dh (record-bytes (recordLong (x .records)) i fits l))
-
-    sums-agree : courseEnd ≤ x .size → (n : ℕ) → n ≤ x .count → sumsOver s x n ≡ sumsOver s′ x n
-    unfolding sumsOver
-    sums-agree fits zero l = refl
-    sums-agree fits (suc n) l =
-        ap₂ added (sums-agree fits n (omega arith)) (course-agrees (recordAt x n) (record-bytes courseEnd n fits (omega arith)) .1)
 
 -- sections that are placed alike
 places-agree : (header size size′ : ℕ) (xs : List Section) → ((x : Section) → List·Memᴰ x xs → placed header size x ≡ placed header size′ x)
@@ -119,19 +134,34 @@ module _ (f : Format) (s s′ : List ℕ) (readable : Readable f) (same : SameSe
   deadwood-bytes : SameBytes s s′ (deadwood f s .offset) (endOf (deadwood f s))
   deadwood-bytes = same .bytes (deadwood f s) (List·Memᴰ·tail (List·Memᴰ·head refl))
 
+  seams-bytes : SameBytes s s′ (seams f s .offset) (endOf (seams f s))
+  seams-bytes = same .bytes (seams f s) (List·Memᴰ·tail (List·Memᴰ·tail (List·Memᴰ·head refl)))
+
   same-courses : courses f s ≡ courses f s′
   same-courses = cc (header-word coursesAt (omega arith), header-word (coursesAt + 4) (omega arith))
 
   same-deadwood : deadwood f s ≡ deadwood f s′
   same-deadwood = cc (header-word deadwoodAt (omega arith), header-word (deadwoodAt + 4) (omega arith))
 
+  same-seam-word : (at : ℕ) → at + 4 ≤ seamHeaderEnd → seamWord f s at ≡ seamWord f s′ at
+  same-seam-word at high =
+      by-test (hasSeams f)
+      (λ has. rw has (word-agrees s s′ 0 (f .header) at (same .header) (omega arith) (omega (arith, leb-true seamHeaderEnd (f .header) has))))
+      (λ none. rw none)
+
+  same-seams : seams f s ≡ seams f s′
+  same-seams = rw (same-seam-word seamsAt (omega arith), same-seam-word (seamsAt + 4) (omega arith))
+
+  same-counts : countTests f s ≡ countTests f s′
+  same-counts = rw (header-word coursesAt (omega arith), header-word deadwoodAt (omega arith), same-seam-word seamsAt (omega arith))
+
   same-layout : layoutTests f s ≡ layoutTests f s′
   unfolding layoutTests
   same-layout =
-      let same-sections : sections f s ≡ sections f s′ = cc (same-courses, same-deadwood) in
+      let same-sections : sections f s ≡ sections f s′ = ap₂ _∷_ same-courses (ap₂ _∷_ same-deadwood (ap (λ (x : Section). x ∷ []) same-seams)) in
       let same-places = places-agree (f .header) (length s) (length s′) (sections f s) (same .place) in
       ap₂ _++_
-      (ap₂ _++_ (ap countTests same-sections) (same-places ∙ ap (placeTests (f .header) (length s′)) same-sections))
+      (ap₂ _++_ same-counts (same-places ∙ ap (placeTests (f .header) (length s′)) same-sections))
       (ap (λ number. test 4 0 (kindKnown number) ∷ []) (header-word kindAt (omega arith)))
 
   same-header : headerTests s ≡ headerTests s′
@@ -148,18 +178,59 @@ module _ (f : Format) (s s′ : List ℕ) (readable : Readable f) (same : SameSe
         header-word stepAt (omega arith),
       )
 
-  same-numbers : numberTests f s ≡ numberTests f s′
-  same-numbers =
+  same-limits : limitTests f s ≡ limitTests f s′
+  same-limits =
       let dh = header-word dhAt (omega arith) in
       ap₂ _++_ same-header
-      (ap₂ (λ first second. first ++ (second ++ []))
-      (section-agrees s s′ (courses f s) courses-bytes (readable .course) dh ∙ ap (sectionTests s′) same-courses)
-      (section-agrees s s′ (deadwood f s) deadwood-bytes (readable .deadwood) dh ∙ ap (sectionTests s′) same-deadwood))
+      (ap₂ _++_ (section-agrees s s′ (courses f s) courses-bytes (readable .course) dh ∙ ap (sectionTests s′) same-courses)
+      (ap₂ (λ second third. second ++ (third ++ []))
+      (section-agrees s s′ (deadwood f s) deadwood-bytes (readable .deadwood) dh ∙ ap (sectionTests s′) same-deadwood)
+      (section-agrees s s′ (seams f s) seams-bytes (readable .seam) dh ∙ ap (sectionTests s′) same-seams)))
+
+  -- the tape rise over each course's seams, and with it the corrected readings and the sums
+
+  seam-bytes-agree : (i : ℕ) → seamOf f s i ≡ pick (ltb i (seams f s .count)) (seamFrom s′ (recordAt (seams f s) i)) noSeam
+  seam-bytes-agree i =
+      by-test (ltb i (seams f s .count))
+      (λ l.
+      let bytes = record-bytes s s′ (seams f s) seams-bytes seamEnd i (readable .seam) (ltb-true i (seams f s .count) l) in
+      rw (l, seam-agrees s s′ (recordAt (seams f s) i) bytes .1))
+      (λ none. rw none)
+
+  same-rise : (i : ℕ) → riseOf f s i ≡ riseOf f s′ i
+  unfolding riseOf
+  same-rise i =
+      ap₂ tapeRise
+      (seam-bytes-agree i ∙ ap (λ (x : Section). pick (ltb i (x .count)) (seamFrom s′ (recordAt x i)) noSeam) same-seams)
+      (header-word dhAt (omega arith))
+
+  -- course i, where it is one
+  same-course : (i : ℕ) → i < courses f s .count
+      → (readingTests s (recordAt (courses f s) i) (riseOf f s i) ≡ readingTests s′ (recordAt (courses f s′) i) (riseOf f s′ i))
+      × (sumOf s (recordAt (courses f s) i) (riseOf f s i) ≡ sumOf s′ (recordAt (courses f s′) i) (riseOf f s′ i))
+  same-course i l =
+      let x = courses f s in
+      let course = course-agrees s s′ (recordAt x i) (record-bytes s s′ x courses-bytes courseEnd i (readable .course) l) in
+      let there = ap (λ (y : Section). recordAt y i) same-courses in (
+        course .1 (riseOf f s i) ∙ ap₂ (readingTests s′) there (same-rise i),
+        course .2 (riseOf f s i) ∙ ap₂ (sumOf s′) there (same-rise i),
+      )
+
+  same-corrected : correctedTests f s ≡ correctedTests f s′
+  same-corrected =
+      items-agree (courses f s .count) _ (λ i. readingTests s′ (recordAt (courses f s′) i) (riseOf f s′ i)) (λ i l. same-course i l .0)
+      ∙ ap (λ (n : ℕ). items n (λ i. readingTests s′ (recordAt (courses f s′) i) (riseOf f s′ i))) (ap (λ (x : Section). x .count) same-courses)
+
+  same-numbers : numberTests f s ≡ numberTests f s′
+  same-numbers = ap₂ _++_ same-limits same-corrected
+
+  sums-agree : (n : ℕ) → n ≤ courses f s .count → sumsOver f s n ≡ sumsOver f s′ n
+  unfolding sumsOver
+  sums-agree zero l = refl
+  sums-agree (suc n) l = ap₂ added (sums-agree n (omega arith)) (same-course n (omega arith) .1)
 
   same-sums : sumsOf f s ≡ sumsOf f s′
-  same-sums =
-      sums-agree s s′ (courses f s) courses-bytes (readable .course) (courses f s .count) (omega arith)
-      ∙ ap (λ (x : Section). sumsOver s′ x (x .count)) same-courses
+  same-sums = sums-agree (courses f s .count) (omega arith) ∙ ap (sumsOver f s′) (ap (λ (x : Section). x .count) same-courses)
 
   same-d1 : d1 f s ≡ d1 f s′
   same-d1 = ap shellDiameter same-sums
@@ -213,7 +284,7 @@ pub same-length : (f : Format) (s s′ : List ℕ) → length s ≡ length s′ 
     → SameSectionsAs f s s′
 same-length f s s′ size header bytes = record { size = rw size; header = header; bytes = bytes; place = λ x m. rw size }
 
-pub changed-bytes-ignored : (s s′ : List ℕ) → length s ≡ length s′ → SameBytes s s′ 0 headerEnd
+pub changed-bytes-ignored : (s s′ : List ℕ) → length s ≡ length s′ → SameBytes s s′ 0 seamHeaderEnd
     → ((x : Section) → List·Memᴰ x (sections today s) → SameBytes s s′ (x .offset) (endOf x))
     → decoded s ≡ decoded s′
 changed-bytes-ignored s s′ size header bytes = other-bytes-ignored s s′ (same-length today s s′ size header bytes)

@@ -2,6 +2,9 @@
 -- words counted from its start. They are the same in every format; a format says how long header and records are, and later ones are
 -- longer at their ends. Assumes nothing.
 use Prim.Native.Nat.{ℕ}
+use mathlib.Core.Bool.{Bool}
+use lib.Dec.{leb}
+use Rattle.laws.specs.Order.{pick}
 use Rattle.survey.specs.declared.format.Format.{Format}
 
 -- in the header
@@ -45,6 +48,10 @@ coursesAt = 32
 abbrev pub deadwoodAt : ℕ
 deadwoodAt = 40
 
+-- likewise of the seams (document 02, E4), in the formats that have them
+abbrev pub seamsAt : ℕ
+seamsAt = 48
+
 -- in a course
 
 abbrev pub firstIn : ℕ
@@ -70,10 +77,26 @@ highIn = 4
 abbrev pub volumeIn : ℕ
 volumeIn = 8
 
--- behind the last word of document 01 in the header, in a course and in a deadwood item
+-- in a seam item: N, t and w
+
+abbrev pub seamNumberIn : ℕ
+seamNumberIn = 0
+
+abbrev pub seamThicknessIn : ℕ
+seamThicknessIn = 4
+
+abbrev pub seamWidthIn : ℕ
+seamWidthIn = 8
+
+-- behind the last word of the header that every format has, and behind those of the seams
 
 abbrev pub headerEnd : ℕ
 headerEnd = 48
+
+abbrev pub seamHeaderEnd : ℕ
+seamHeaderEnd = 56
+
+-- behind the last word of a course, of a deadwood item and of a seam item
 
 abbrev pub courseEnd : ℕ
 courseEnd = 16
@@ -81,6 +104,13 @@ courseEnd = 16
 abbrev pub itemEnd : ℕ
 itemEnd = 12
 
--- the format of document 01
-abbrev pub today : Format
-today = record { header = headerEnd; course = courseEnd; deadwood = itemEnd }
+abbrev pub seamEnd : ℕ
+seamEnd = 12
+
+-- a format has the seams if its header has their words
+abbrev pub hasSeams : Format → Bool
+hasSeams f = leb seamHeaderEnd (f .header)
+
+-- behind the last word of a format's header
+abbrev pub wordsEnd : Format → ℕ
+wordsEnd f = pick (hasSeams f) seamHeaderEnd headerEnd

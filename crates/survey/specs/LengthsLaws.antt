@@ -19,13 +19,15 @@ use Rattle.heads.specs.Length.{fitsDiameter}
 use Rattle.survey.specs.declared.dimensions.Sums.{Sums}
 use Rattle.survey.specs.declared.format.Format.{Format}
 use Rattle.survey.specs.Word.{word}
-use Rattle.survey.specs.Layout.{today, kindAt, dhAt, l1At, l3At}
+use Rattle.survey.specs.Layout.{kindAt, dhAt, l1At, l3At}
+use Rattle.survey.specs.Format.{today}
 use Rattle.survey.specs.Section.{courses}
 use Rattle.survey.specs.Dimensions.{sumsOf, allowance, lengthsFit, d1, d2, diametersFit}
 use Rattle.survey.specs.Tests.{dimensionTests}
 use Rattle.survey.specs.Survey.{decoded}
 use Rattle.survey.specs.Fault.{numbersPass, lengthsFault}
-use Rattle.survey.specs.SurveyLaws.{file-sums, today-readable}
+use Rattle.survey.specs.FitLaws.{file-sums}
+use Rattle.survey.specs.SurveyLaws.{today-readable}
 use Rattle.survey.specs.DimensionLaws.{numbers-pass, decoded-by-dimensions}
 
 -- by how much the sum of the course lengths misses L1, whichever is the larger

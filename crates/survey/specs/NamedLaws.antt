@@ -1,6 +1,6 @@
 -- Every refusal that a file gets has a sentence of its own: none is said to be not one of this survey's. Assumes nothing.
 use Prim.Native.Nat.{ℕ, zero, suc, _+_, _*_, _≤_, _<_}
-use mathlib.Core.Path.{_≡_, refl, sym, _∙_}
+use mathlib.Core.Path.{_≡_, refl, sym, _∙_, ap}
 use mathlib.Core.Bool.{Bool, true, false}
 use mathlib.Core.List.{List, [], _∷_, _++_, List·Memᴰ, List·Memᴰ·head, List·Memᴰ·tail}
 use native.Mathlib.Omega.{arith}
@@ -15,25 +15,28 @@ use Rattle.refusal.specs.declared.Verdict.the-variants.{Passed, Refused}
 use Rattle.refusal.specs.Test.{Test, test, refusal, verdict, items, within, firstRefusal}
 use Rattle.refusal.specs.TestLaws.{verdict-append, passed-all, passed-append, within-pass}
 use Rattle.heads.specs.Kind.{kindKnown}
+use Rattle.survey.specs.declared.fault.Fault.{Fault}
 use Rattle.survey.specs.declared.format.Format.{Format}
 use Rattle.survey.specs.declared.section.Section.{Section}
 use Rattle.survey.specs.declared.section.Records.{Records}
-use Rattle.survey.specs.declared.section.Records.the-variants.{Courses, Deadwood}
+use Rattle.survey.specs.declared.section.Records.the-variants.{Courses, Deadwood, Seams}
 use Rattle.survey.specs.Word.{word}
-use Rattle.survey.specs.Layout.{today, headerEnd, kindAt, dhAt}
+use Rattle.survey.specs.Layout.{headerEnd, kindAt, dhAt, lengthIn, hasSeams}
+use Rattle.survey.specs.Format.{today}
 use Rattle.survey.specs.Limits.{largestFile}
-use Rattle.survey.specs.Section.{courses, deadwood, sections, recordAt, countFits, placed, apart, recordLong}
+use Rattle.survey.specs.Section.{courses, sections, recordAt, recordLong}
+use Rattle.survey.specs.Reading.{riseOf}
 use Rattle.survey.specs.Dimensions.{d1, diameterFits}
 use Rattle.survey.specs.Sentence.{ofUnknown}
-use Rattle.survey.specs.Tests.{countTests, placeTests, layoutTests, headerTests, numberTests, dimensionTests, fileTests}
-use Rattle.survey.specs.Tests.{courseTests, itemTests, recordTests, sectionTests, sectionsTests}
-use Rattle.survey.specs.Fault.{sizeFault, headerFault, countFault, placeFault, headedFault, faultAs, faultOf}
-use Rattle.survey.specs.Fault.{numbersPass, lengthsFault, diameterFault, headLengthFault, dimensionFault}
+use Rattle.survey.specs.Tests.{countTests, placeTests, layoutTests, headerTests, limitTests, correctedTests, numberTests, dimensionTests, fileTests}
+use Rattle.survey.specs.Tests.{courseTests, itemTests, seamTests, readingTests, recordTests, sectionTests, sectionsTests}
+use Rattle.survey.specs.Fault.{sizeFault, headerFault, firstOf, lastFault, countFaults, countFault, placeFaults, placeFault, headedFault, faultAs, faultOf}
+use Rattle.survey.specs.Fault.{passed, limitsPass, numbersPass, lengthsFault, diameterFault, headLengthFault, dimensionFault}
 use Rattle.survey.specs.Survey.{decoded}
 use Rattle.survey.specs.SectionLaws.{Readable}
 use Rattle.survey.specs.SurveyLaws.{today-readable}
 use Rattle.survey.specs.NumberedLaws.{decoded-verdict}
-use Rattle.survey.specs.FaultLaws.{ofRecords, every-header-word-named, every-record-word-named}
+use Rattle.survey.specs.FaultLaws.{words-end, ofRecords, every-header-word-named, every-record-word-named, every-corrected-reading-named}
 
 -- what holds of the refusal of each test of a list holds of its verdict's
 module _ (P : Refusal → Type 0) where
@@ -79,6 +82,22 @@ size-named f s = by-test (leb (length s) largestFile) (λ e. rw e (omega arith))
 records-known : (records : Records) (w : ℕ) → 4 * w + 4 ≤ recordLong records → ofRecords records + w < ofUnknown
 records-known Courses w inside = omega arith
 records-known Deadwood w inside = omega arith
+records-known Seams w inside = omega arith
+
+-- of the first test that fails, where what each is about is known
+
+abbrev Known : List (Bool × Fault) → Type 0
+Known [] = Unit
+Known (x ∷ xs) = (x .1 .sentence < ofUnknown) × Known xs
+
+first-known : (xs : List (Bool × Fault)) (last : Fault) → Known xs → last .sentence < ofUnknown → firstOf xs last .sentence < ofUnknown
+first-known [] last known of-last = of-last
+first-known (x ∷ xs) last known of-last =
+    by-test (x .0) (λ e. rw e (first-known xs last (known .1) of-last)) (λ e. rw e (known .0))
+
+last-known : (f : Format) (s : List ℕ) (k : ℕ) → k ≤ 4 → lastFault f s k .sentence < ofUnknown
+unfolding headerFault
+last-known f s k small = by-test (hasSeams f) (λ e. rw e (omega arith)) (λ e. rw e (omega arith))
 
 -- .. that has its header
 module _ (f : Format) (s : List ℕ) (readable : Readable f) (header : f .header ≤ length s) where
@@ -87,15 +106,11 @@ module _ (f : Format) (s : List ℕ) (readable : Readable f) (header : f .header
 
   count-named : Named f s (refusal 2 0)
   unfolding headerFault countFault headedFault faultAs
-  count-named = rw has-header (by-test (countFits Courses (courses f s .count)) (λ e. rw e (omega arith)) (λ e. rw e (omega arith)))
+  count-named = rw has-header (first-known (countFaults f s) (lastFault f s 0) (omega arith, (omega arith, tt)) (last-known f s 0 (omega arith)))
 
   place-named : Named f s (refusal 3 0)
   unfolding headerFault placeFault headedFault faultAs
-  place-named =
-      rw has-header
-      (by-test (placed (f .header) (length s) (courses f s))
-      (λ e. rw e (by-test (apart (courses f s) (deadwood f s)) (λ e. rw e (omega arith)) (λ e. rw e (omega arith))))
-      (λ e. rw e (omega arith)))
+  place-named = rw has-header (first-known (placeFaults f s) (lastFault f s 4) (omega arith, (omega arith, (omega arith, (omega arith, (omega arith, tt))))) (last-known f s 4 (omega arith)))
 
   kind-named : Named f s (refusal 4 0)
   unfolding headerFault headedFault faultAs
@@ -103,44 +118,71 @@ module _ (f : Format) (s : List ℕ) (readable : Readable f) (header : f .header
 
   layout-named : Each (Named f s) (layoutTests f s)
   unfolding layoutTests
-  layout-named = (count-named, (count-named, (place-named, (place-named, (place-named, (kind-named, tt))))))
+  layout-named = (
+    count-named,
+    (
+      count-named,
+      (
+        count-named,
+        (place-named, (place-named, (place-named, (place-named, (place-named, (place-named, (kind-named, tt))))))),
+      ),
+    ),
+  )
 
-  header-named : Each (Named f s) (headerTests s)
-  unfolding headerTests
-  header-named = (word-named 1 refl, (word-named 2 refl, (word-named 3 refl, (word-named 4 refl, (word-named 5 refl, (word-named 6 refl, (word-named 7 refl, tt)))))))
-    where
-      word-named : (w : ℕ) → leb (4 * w + 4) headerEnd ≡ true → Named f s (refusal 5 (4 * w))
-      word-named w e =
-          let inside = leb-true (4 * w + 4) headerEnd e in
-          omega (arith, every-header-word-named f s readable header w inside)
-
-  -- .. and passes refusal 3
-  module _ (passed : verdict (placeTests (f .header) (length s) (sections f s)) ≡ Passed) where
-    record-named : (x : Section) → List·Memᴰ x (sections f s) → (i : ℕ) → i < x .count
-        → Each (Named f s) (recordTests (x .records) s (recordAt x i))
-    unfolding courseTests itemTests
-    record-named x of i l = by-records (x .records) refl
+  -- .. and a number that is refused as it stands
+  module _ (refused : limitsPass f s ≡ false) where
+    header-named : Each (Named f s) (headerTests s)
+    unfolding headerTests
+    header-named = (word-named 1 refl, (word-named 2 refl, (word-named 3 refl, (word-named 4 refl, (word-named 5 refl, (word-named 6 refl, (word-named 7 refl, tt)))))))
       where
-        word-named : (records : Records) → x .records ≡ records → (w : ℕ) → leb (4 * w + 4) (recordLong records) ≡ true
-            → Named f s (refusal 5 (recordAt x i + 4 * w))
-        word-named records e w fits =
-            let inside = leb-true (4 * w + 4) (recordLong records) fits in
-            let named = every-record-word-named f s readable header passed x of i l w (rw e inside) .0 in
-            omega (arith, rw e at named, records-known records w inside)
+        word-named : (w : ℕ) → leb (4 * w + 4) headerEnd ≡ true → Named f s (refusal 5 (4 * w))
+        word-named w e =
+            let inside = leb-true (4 * w + 4) headerEnd e in
+            omega (arith, every-header-word-named f s readable header refused w (omega (arith, words-end f readable)))
 
-        by-records : (records : Records) → x .records ≡ records → Each (Named f s) (recordTests records s (recordAt x i))
-        by-records Courses e = (word-named Courses e 0 refl, (word-named Courses e 1 refl, (word-named Courses e 2 refl, (word-named Courses e 3 refl, tt))))
-        by-records Deadwood e = (word-named Deadwood e 1 refl, (word-named Deadwood e 2 refl, tt))
+    -- .. though refusal 3 is not given
+    module _ (passed : verdict (placeTests (f .header) (length s) (sections f s)) ≡ Passed) where
+      record-named : (x : Section) → List·Memᴰ x (sections f s) → (i : ℕ) → i < x .count
+          → Each (Named f s) (recordTests (x .records) s (recordAt x i))
+      unfolding courseTests itemTests seamTests
+      record-named x of i l = by-records (x .records) refl
+        where
+          word-named : (records : Records) → x .records ≡ records → (w : ℕ) → leb (4 * w + 4) (recordLong records) ≡ true
+              → Named f s (refusal 5 (recordAt x i + 4 * w))
+          word-named records e w fits =
+              let inside = leb-true (4 * w + 4) (recordLong records) fits in
+              let named = every-record-word-named f s readable header refused passed x of i l w (rw e inside) .0 in
+              omega (arith, rw e at named, records-known records w inside)
 
-    section-named : (x : Section) → List·Memᴰ x (sections f s) → Each (Named f s) (sectionTests s x)
-    section-named x of = each-item (Named f s) (x .count) (λ i. recordTests (x .records) s (recordAt x i)) (record-named x of)
+          by-records : (records : Records) → x .records ≡ records → Each (Named f s) (recordTests records s (recordAt x i))
+          by-records Courses e = (word-named Courses e 0 refl, (word-named Courses e 1 refl, (word-named Courses e 2 refl, (word-named Courses e 3 refl, tt))))
+          by-records Deadwood e = (word-named Deadwood e 1 refl, (word-named Deadwood e 2 refl, tt))
+          by-records Seams e = (word-named Seams e 0 refl, (word-named Seams e 1 refl, (word-named Seams e 2 refl, tt)))
 
-    numbers-named : Each (Named f s) (numberTests f s)
-    numbers-named =
-        each-append (Named f s) (headerTests s) (sectionsTests s (sections f s)) header-named
-        (each-append (Named f s) (sectionTests s (courses f s)) (sectionTests s (deadwood f s) ++ [])
-        (section-named (courses f s) (List·Memᴰ·head refl))
-        (each-append (Named f s) (sectionTests s (deadwood f s)) [] (section-named (deadwood f s) (List·Memᴰ·tail (List·Memᴰ·head refl))) tt))
+      section-named : (x : Section) → List·Memᴰ x (sections f s) → Each (Named f s) (sectionTests s x)
+      section-named x of = each-item (Named f s) (x .count) (λ i. recordTests (x .records) s (recordAt x i)) (record-named x of)
+
+      sections-named : (xs : List Section) → ((x : Section) → List·Memᴰ x xs → List·Memᴰ x (sections f s)) → Each (Named f s) (sectionsTests s xs)
+      sections-named [] of = tt
+      sections-named (x ∷ xs) of =
+          each-append (Named f s) (sectionTests s x) (sectionsTests s xs) (section-named x (of x (List·Memᴰ·head refl)))
+          (sections-named xs (λ y m. of y (List·Memᴰ·tail m)))
+
+      limits-named : Each (Named f s) (limitTests f s)
+      limits-named =
+          each-append (Named f s) (headerTests s) (sectionsTests s (sections f s)) header-named (sections-named (sections f s) (λ x m. m))
+
+  -- .. and a corrected reading that is refused
+  readings-named : limitsPass f s ≡ true → Each (Named f s) (correctedTests f s)
+  unfolding readingTests
+  readings-named pass =
+      each-item (Named f s) (courses f s .count) (λ i. readingTests s (recordAt (courses f s) i) (riseOf f s i))
+      (λ i l. (reading-named i l 0 refl, (reading-named i l 1 refl, tt)))
+    where
+      reading-named : (i : ℕ) → i < courses f s .count → (w : ℕ) → leb (4 * w + 4) lengthIn ≡ true → Named f s (refusal 5 (recordAt (courses f s) i + 4 * w))
+      reading-named i l w e =
+          let inside = leb-true (4 * w + 4) lengthIn e in
+          rw (every-corrected-reading-named f s readable header pass i l w inside) (omega arith)
 
   dimensions-named : numbersPass f s ≡ true → Each (Named f s) (dimensionTests f s)
   unfolding lengthsFault diameterFault headLengthFault dimensionFault headedFault faultAs dimensionTests
@@ -155,15 +197,15 @@ unfolding layoutTests
 places-pass f s e =
     let places = placeTests (f .header) (length s) (sections f s) in
     let kind = test 4 0 (kindKnown (word s kindAt)) ∷ [] in
-    passed-append (countTests (sections f s)) places (passed-append (countTests (sections f s) ++ places) kind e .0) .1
+    passed-append (countTests f s) places (passed-append (countTests f s ++ places) kind e .0) .1
 
-all-pass : (f : Format) (s : List ℕ) → within (f .header) (length s) largestFile ≡ true → verdict (layoutTests f s) ≡ Passed
-    → verdict (numberTests f s) ≡ Passed → numbersPass f s ≡ true
-unfolding numbersPass
-all-pass f s size layout numbers = rw (size, layout, numbers)
+limits-decide : (f : Format) (s : List ℕ) → within (f .header) (length s) largestFile ≡ true → verdict (layoutTests f s) ≡ Passed
+    → limitsPass f s ≡ passed (verdict (limitTests f s))
+unfolding limitsPass
+limits-decide f s size layout = rw (size, layout)
 
 pub every-refusal-named : (f : Format) (s : List ℕ) → Readable f → (r : Refusal) → verdict (fileTests f s) ≡ Refused r → Named f s r
-unfolding fileTests
+unfolding numbersPass fileTests
 every-refusal-named f s readable r e =
     let of-size = test 1 0 (within (f .header) (length s) largestFile) ∷ [] in
     refused-append of-size (layoutTests f s ++ (numberTests f s ++ dimensionTests f s)) r e
@@ -174,9 +216,15 @@ every-refusal-named f s readable r e =
     refused-append (layoutTests f s) (numberTests f s ++ dimensionTests f s) r e
     (refused-each (Named f s) (layoutTests f s) (layout-named f s readable header) r)
     (λ layout e.
+    let decide = limits-decide f s fits layout in
     refused-append (numberTests f s) (dimensionTests f s) r e
-    (refused-each (Named f s) (numberTests f s) (numbers-named f s readable header (places-pass f s layout)) r)
-    (λ numbers e. refused-each (Named f s) (dimensionTests f s) (dimensions-named f s readable header (all-pass f s fits layout numbers)) r e)))
+    (λ e.
+    refused-append (limitTests f s) (correctedTests f s) r e
+    (λ e. refused-each (Named f s) (limitTests f s) (limits-named f s readable header (decide ∙ ap passed e) (places-pass f s layout)) r e)
+    (λ limits e. refused-each (Named f s) (correctedTests f s) (readings-named f s readable header (decide ∙ ap passed limits)) r e))
+    (λ numbers e.
+    let both = passed-append (limitTests f s) (correctedTests f s) numbers in
+    refused-each (Named f s) (dimensionTests f s) (dimensions-named f s readable header (rw (decide ∙ ap passed (both .0), both .1))) r e)))
 
 -- in today's format, of whatever decoding refuses
 pub every-refusal-has-its-sentence : (s : List ℕ) (r : Refusal) → decoded s .verdict ≡ Refused r

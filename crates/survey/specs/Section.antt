@@ -4,20 +4,19 @@ use Prim.Native.Nat.{ℕ, _+_, _*_}
 use mathlib.Core.Bool.{Bool, _&&_, _||_}
 use mathlib.Core.List.{List, [], _∷_}
 use lib.Dec.{leb, eqb}
-use Rattle.refusal.specs.Test.{within}
-use Rattle.deadwood.specs.Item.{mostItems}
+use Rattle.laws.specs.Order.{pick}
 use Rattle.survey.specs.declared.format.Format.{Format}
 use Rattle.survey.specs.declared.section.Section.{Section}
 use Rattle.survey.specs.declared.section.Records.{Records}
-use Rattle.survey.specs.declared.section.Records.the-variants.{Courses, Deadwood}
+use Rattle.survey.specs.declared.section.Records.the-variants.{Courses, Deadwood, Seams}
 use Rattle.survey.specs.Word.{word}
-use Rattle.survey.specs.Layout.{coursesAt, deadwoodAt, courseEnd, itemEnd}
-use Rattle.survey.specs.Limits.{mostCourses}
+use Rattle.survey.specs.Layout.{coursesAt, deadwoodAt, seamsAt, courseEnd, itemEnd, seamEnd, hasSeams}
 
 -- the words of a record of a kind
 abbrev pub recordLong : Records → ℕ
 recordLong Courses = courseEnd
 recordLong Deadwood = itemEnd
+recordLong Seams = seamEnd
 
 -- a section of records of a size, whose count and byte offset stand at a byte of the header
 abbrev pub sectionAt : Records → (at size : ℕ) → List ℕ → Section
@@ -29,9 +28,20 @@ courses f s = sectionAt Courses coursesAt (f .course) s
 abbrev pub deadwood : Format → List ℕ → Section
 deadwood f s = sectionAt Deadwood deadwoodAt (f .deadwood) s
 
+-- a word of the seams' in the header; a format that lacks it has 0
+abbrev pub seamWord : Format → List ℕ → ℕ → ℕ
+seamWord f s at = pick (hasSeams f) (word s at) 0
+
+abbrev pub seams : Format → List ℕ → Section
+seams f s = record { records = Seams; count = seamWord f s seamsAt; offset = seamWord f s (seamsAt + 4); size = f .seam }
+
 -- a file's sections, in the order in which their numbers are tested
 abbrev pub sections : Format → List ℕ → List Section
-sections f s = courses f s ∷ deadwood f s ∷ []
+sections f s = courses f s ∷ deadwood f s ∷ seams f s ∷ []
+
+-- how many seam items there must be: one for each course, where the format has them
+abbrev pub seamItems : Format → List ℕ → ℕ
+seamItems f s = pick (hasSeams f) (courses f s .count) 0
 
 -- the byte where record i starts
 abbrev pub recordAt : Section → ℕ → ℕ
@@ -40,11 +50,6 @@ recordAt x i = x .offset + x .size * i
 -- the byte behind the last record
 abbrev pub endOf : Section → ℕ
 endOf x = recordAt x (x .count)
-
--- the count is within its limits
-unfoldable pub countFits : Records → ℕ → Bool
-countFits Courses count = within 1 count mostCourses
-countFits Deadwood count = leb count mostItems
 
 -- an empty section's offset is not looked at; another starts behind the header and ends inside the file
 unfoldable pub placed : (header fileSize : ℕ) → Section → Bool

@@ -17,10 +17,10 @@ use Rattle.deadwood.specs.Item.{mostItems}
 use Rattle.survey.specs.declared.format.Format.{Format}
 use Rattle.survey.specs.declared.section.Section.{Section}
 use Rattle.survey.specs.declared.section.Records.{Records}
-use Rattle.survey.specs.declared.section.Records.the-variants.{Courses, Deadwood}
-use Rattle.survey.specs.Layout.{headerEnd, courseEnd, itemEnd}
+use Rattle.survey.specs.declared.section.Records.the-variants.{Courses, Deadwood, Seams}
+use Rattle.survey.specs.Layout.{headerEnd, courseEnd, itemEnd, seamEnd}
 use Rattle.survey.specs.Limits.{largestFile, mostCourses}
-use Rattle.survey.specs.Section.{courses, deadwood, recordAt, endOf, countFits, placed, recordLong}
+use Rattle.survey.specs.Section.{courses, deadwood, seams, seamItems, recordAt, endOf, placed, recordLong}
 use Rattle.survey.specs.Tests.{layoutTests}
 
 -- a bound on the length of a record
@@ -35,6 +35,8 @@ pub record Readable (f : Format) : Type 0 where
   pub course-short : f .course ≤ longestRecord
   pub deadwood : itemEnd ≤ f .deadwood
   pub deadwood-short : f .deadwood ≤ longestRecord
+  pub seam : seamEnd ≤ f .seam
+  pub seam-short : f .seam ≤ longestRecord
 
 -- a section of words and a short record: no sum over it wraps
 pub record Small (x : Section) : Type 0 where
@@ -49,6 +51,7 @@ small-end x small = omega (arith, mul-le-mul (small .size) (le-of-lt (small .cou
 pub record-some : (records : Records) → itemEnd ≤ recordLong records
 record-some Courses = omega arith
 record-some Deadwood = omega arith
+record-some Seams = omega arith
 
 -- a section whose records lie inside a file that has its header
 pub record Inside (s : List ℕ) (x : Section) : Type 0 where
@@ -71,31 +74,34 @@ pub record Placed (f : Format) (s : List ℕ) : Type 0 where
   pub header : f .header ≤ length s
   pub courses-inside : Inside s (courses f s)
   pub deadwood-inside : Inside s (deadwood f s)
+  pub seams-inside : Inside s (seams f s)
   pub someCourse : 1 ≤ courses f s .count
   pub fewCourses : courses f s .count ≤ mostCourses
   pub fewItems : deadwood f s .count ≤ mostItems
+  pub eachSeamed : seams f s .count ≡ seamItems f s
 
 pub placed-file : (f : Format) (s : List ℕ) → Readable f → within (f .header) (length s) largestFile ≡ true → verdict (layoutTests f s) ≡ Passed → Placed f s
-unfolding layoutTests countFits
+unfolding layoutTests
 placed-file f s readable size passed =
     let file = within-pass (f .header) (length s) largestFile size in
     let pass = passed-all (layoutTests f s) passed in
-    let count = within-pass 1 (courses f s .count) mostCourses (pass .0) in
+    let courses-count = within-pass 1 (courses f s .count) mostCourses (pass .0) in
+    let seams-count = within-pass (seamItems f s) (seams f s .count) (seamItems f s) (pass .1 .1 .0) in
+    let inside : (x : Section) → recordLong (x .records) ≤ x .size → placed (f .header) (length s) x ≡ true → Inside s x =
+    λ x long there. record {
+      header = omega (arith, readable .header, file .0);
+      file = file .1;
+      long = long;
+      inside = λ i l. placed-inside (f .header) (length s) x there i l .1;
+    } in
+    let places = pass .1 .1 .1 in
     record {
       header = file .0;
-      courses-inside = record {
-        header = omega (arith, readable .header, file .0);
-        file = file .1;
-        long = readable .course;
-        inside = λ i l. placed-inside (f .header) (length s) (courses f s) (pass .1 .1 .0) i l .1;
-      };
-      deadwood-inside = record {
-        header = omega (arith, readable .header, file .0);
-        file = file .1;
-        long = readable .deadwood;
-        inside = λ i l. placed-inside (f .header) (length s) (deadwood f s) (pass .1 .1 .1 .1 .0) i l .1;
-      };
-      someCourse = count .0;
-      fewCourses = count .1;
-      fewItems = leb-true (deadwood f s .count) mostItems (pass .1 .0);
+      courses-inside = inside (courses f s) (readable .course) (places .0);
+      deadwood-inside = inside (deadwood f s) (readable .deadwood) (places .1 .1 .1 .0);
+      seams-inside = inside (seams f s) (readable .seam) (places .1 .1 .1 .1 .1 .0);
+      someCourse = courses-count .0;
+      fewCourses = courses-count .1;
+      fewItems = within-pass 0 (deadwood f s .count) mostItems (pass .1 .0) .1;
+      eachSeamed = omega (arith, seams-count);
     }

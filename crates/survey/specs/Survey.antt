@@ -18,7 +18,8 @@ use Rattle.survey.specs.declared.decode.Decoded.{Decoded}
 use Rattle.survey.specs.declared.format.Format.{Format}
 use Rattle.survey.specs.declared.decode.Survey.{Survey}
 use Rattle.survey.specs.Word.{word}
-use Rattle.survey.specs.Layout.{today, kindAt, dhAt, l1At, l2At, l3At, stepAt}
+use Rattle.survey.specs.Layout.{kindAt, dhAt, l1At, l2At, l3At, stepAt}
+use Rattle.survey.specs.Format.{today}
 use Rattle.survey.specs.Section.{deadwood, recordAt}
 use Rattle.survey.specs.Item.{itemFrom}
 use Rattle.survey.specs.Dimensions.{d1, d2}

@@ -9,22 +9,28 @@ use Rattle.refusal.specs.Test.{Test, test, items, within}
 use Rattle.heads.specs.Kind.{kindKnown, kindOf}
 use Rattle.heads.specs.Length.{lengthFits, fitsDiameter}
 use Rattle.tank.specs.Limits.{longestShell, longestFlange}
-use Rattle.deadwood.specs.Item.{heightsFit, volumeFits}
+use Rattle.deadwood.specs.Item.{mostItems, heightsFit, volumeFits}
+use Rattle.seams.specs.Seam.{mostSeams, thickestSeam, widestSeam}
 use Rattle.survey.specs.declared.format.Format.{Format}
 use Rattle.survey.specs.declared.section.Section.{Section}
 use Rattle.survey.specs.declared.section.Records.{Records}
-use Rattle.survey.specs.declared.section.Records.the-variants.{Courses, Deadwood}
+use Rattle.survey.specs.declared.section.Records.the-variants.{Courses, Deadwood, Seams}
 use Rattle.survey.specs.Word.{word}
 use Rattle.survey.specs.Layout.{kindAt, dhAt, l1At, leftAt, rightAt, l2At, l3At, stepAt, firstIn, secondIn, lengthIn, thicknessIn, highIn, volumeIn}
-use Rattle.survey.specs.Limits.{largestFile, shortestCircumference, longestCircumference, shortestShell, shortestCourse, thinnest, thickest}
-use Rattle.survey.specs.Section.{sections, recordAt, countFits, placed, apart}
+use Rattle.survey.specs.Layout.{seamNumberIn, seamThicknessIn, seamWidthIn}
+use Rattle.survey.specs.Limits.{largestFile, mostCourses, shortestCircumference, longestCircumference, shortestShell, shortestCourse, thinnest, thickest}
+use Rattle.survey.specs.Section.{courses, deadwood, seams, sections, seamItems, recordAt, placed, apart}
 use Rattle.survey.specs.Item.{itemFrom}
+use Rattle.survey.specs.Reading.{riseOf, corrected}
 use Rattle.survey.specs.Dimensions.{sumsOf, lengthsFit, d1, d2, diametersFit}
 
 -- refusal 2: every section's count
-abbrev pub countTests : List Section → List Test
-countTests [] = []
-countTests (x ∷ xs) = test 2 0 (countFits (x .records) (x .count)) ∷ countTests xs
+abbrev pub countTests : Format → List ℕ → List Test
+countTests f s =
+    test 2 0 (within 1 (courses f s .count) mostCourses)
+    ∷ test 2 0 (within 0 (deadwood f s .count) mostItems)
+    ∷ test 2 0 (within (seamItems f s) (seams f s .count) (seamItems f s))
+    ∷ []
 
 -- refusal 3: every section well placed, and any two of them apart
 
@@ -39,7 +45,7 @@ placeTests header fileSize (x ∷ xs) = test 3 0 (placed header fileSize x) ∷ 
 -- refusals 2 to 4, of a file that has its header
 unfoldable pub layoutTests : Format → List ℕ → List Test
 layoutTests f s =
-    countTests (sections f s)
+    countTests f s
     ++ placeTests (f .header) (length s) (sections f s)
     ++ (test 4 0 (kindKnown (word s kindAt)) ∷ [])
 
@@ -74,9 +80,18 @@ itemTests s at =
     ∷ test 5 (at + volumeIn) (volumeFits (itemFrom s at))
     ∷ []
 
+-- of the seam item at a byte
+unfoldable pub seamTests : List ℕ → ℕ → List Test
+seamTests s at =
+    limit s (at + seamNumberIn) 0 mostSeams
+    ∷ limit s (at + seamThicknessIn) 0 thickestSeam
+    ∷ limit s (at + seamWidthIn) 0 widestSeam
+    ∷ []
+
 abbrev pub recordTests : Records → List ℕ → ℕ → List Test
 recordTests Courses s at = courseTests s at
 recordTests Deadwood s at = itemTests s at
+recordTests Seams s at = seamTests s at
 
 -- record by record, and section by section
 abbrev pub sectionTests : List ℕ → Section → List Test
@@ -86,9 +101,24 @@ abbrev pub sectionsTests : List ℕ → List Section → List Test
 sectionsTests s [] = []
 sectionsTests s (x ∷ xs) = sectionTests s x ++ sectionsTests s xs
 
--- refusal 5: the header's numbers, then the sections'
+-- refusal 5 of every number as it stands in the file: the header's, then the sections'
+abbrev pub limitTests : Format → List ℕ → List Test
+limitTests f s = headerTests s ++ sectionsTests s (sections f s)
+
+-- .. and last of the readings of the course at a byte, less the tape rise over its seams: the reading is the bad number
+unfoldable pub readingTests : List ℕ → (at rise : ℕ) → List Test
+readingTests s at rise =
+    test 5 (at + firstIn) (within shortestCircumference (corrected (word s (at + firstIn)) rise) longestCircumference)
+    ∷ test 5 (at + secondIn) (within shortestCircumference (corrected (word s (at + secondIn)) rise) longestCircumference)
+    ∷ []
+
+-- .. course by course
+abbrev pub correctedTests : Format → List ℕ → List Test
+correctedTests f s = items (courses f s .count) (λ i. readingTests s (recordAt (courses f s) i) (riseOf f s i))
+
+-- refusal 5
 abbrev pub numberTests : Format → List ℕ → List Test
-numberTests f s = headerTests s ++ sectionsTests s (sections f s)
+numberTests f s = limitTests f s ++ correctedTests f s
 
 -- refusals 6, 7 and 14
 unfoldable pub dimensionTests : Format → List ℕ → List Test

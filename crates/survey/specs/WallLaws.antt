@@ -7,18 +7,15 @@ use native.Mathlib.Nat.{le-refl, mul-le-mul-right}
 use native.Mathlib.Omega.{arith}
 use Rattle.laws.specs.NearestLaws.{nearest-at-most, nearest-at-least}
 use Rattle.measure.specs.Pi.{piOver, piUnder}
-use Rattle.refusal.specs.declared.Verdict.the-variants.{Passed}
-use Rattle.refusal.specs.Test.{verdict}
-use Rattle.refusal.specs.TestLaws.{passed-all, within-pass}
 use Rattle.survey.specs.declared.format.Format.{Format}
-use Rattle.survey.specs.declared.section.Section.{Section}
 use Rattle.survey.specs.Word.{word}
 use Rattle.survey.specs.Layout.{leftAt, rightAt, firstIn, secondIn, lengthIn}
-use Rattle.survey.specs.Limits.{shortestCircumference, longestCircumference, thickest}
+use Rattle.survey.specs.Limits.{shortestCircumference, thickest}
 use Rattle.survey.specs.Section.{courses, recordAt}
+use Rattle.survey.specs.Reading.{riseOf, corrected}
 use Rattle.survey.specs.Dimensions.{sumOf, sumsOver, sumsOf, outerDiameter, wall, shellDiameter, headDiameter, d1, d2}
-use Rattle.survey.specs.Tests.{courseTests}
-use Rattle.survey.specs.SurveyLaws.{NumbersFit, course-passes, file-sums, ends-fit}
+use Rattle.survey.specs.CourseLaws.{CourseFits, CoursesFit}
+use Rattle.survey.specs.FitLaws.{NumbersFit, as-they-stand, courses-fit, file-sums, ends-fit}
 
 -- of the thickest courses
 abbrev pub thickestWall : ℕ
@@ -35,23 +32,21 @@ outer-at-least readings lengths some enough =
     nearest-at-least (piUnder * readings) smallestOuter (2 * piOver * lengths) (omega arith) (omega arith)
 
 -- what the course at a byte adds to W is at least that of the shortest circumferences ..
-reading-at-least : (s : List ℕ) (at : ℕ) → verdict (courseTests s at) ≡ Passed
-    → 2 * shortestCircumference * sumOf s at .lengths ≤ sumOf s at .readings
-unfolding courseTests sumOf
-reading-at-least s at e =
-    let pass = passed-all (courseTests s at) e in
-    let first = within-pass shortestCircumference (word s (at + firstIn)) longestCircumference (pass .0) .0 in
-    let second = within-pass shortestCircumference (word s (at + secondIn)) longestCircumference (pass .1 .0) .0 in
-    let both : 2 * shortestCircumference ≤ word s (at + firstIn) + word s (at + secondIn) = omega (arith, first, second) in
+reading-at-least : (s : List ℕ) (at rise : ℕ) → CourseFits s at rise → 2 * shortestCircumference * sumOf s at rise .lengths ≤ sumOf s at rise .readings
+unfolding sumOf
+reading-at-least s at rise course =
+    let first = word s (at + firstIn) in
+    let second = word s (at + secondIn) in
+    let both : 2 * shortestCircumference ≤ corrected first rise + corrected second rise = omega (arith, course .first, course .second) in
     mul-le-mul-right (word s (at + lengthIn)) both
 
 -- .. and so is W over n courses
-readings-at-least : (s : List ℕ) (x : Section) → ((i : ℕ) → i < x .count → verdict (courseTests s (recordAt x i)) ≡ Passed)
-    → (n : ℕ) → n ≤ x .count → 2 * shortestCircumference * sumsOver s x n .lengths ≤ sumsOver s x n .readings
+readings-at-least : (f : Format) (s : List ℕ) → CoursesFit f s
+    → (n : ℕ) → n ≤ courses f s .count → 2 * shortestCircumference * sumsOver f s n .lengths ≤ sumsOver f s n .readings
 unfolding sumsOver
-readings-at-least s x passed zero l = omega arith
-readings-at-least s x passed (suc n) l =
-    omega (arith, readings-at-least s x passed n (omega arith), reading-at-least s (recordAt x n) (passed n (omega arith)))
+readings-at-least f s fit zero l = omega arith
+readings-at-least f s fit (suc n) l =
+    omega (arith, readings-at-least f s fit n (omega arith), reading-at-least s (recordAt (courses f s) n) (riseOf f s n) (fit n (omega arith)))
 
 module _ (f : Format) (s : List ℕ) (fit : NumbersFit f s) where
   pub wall-at-most : wall (sumsOf f s .thicknesses) (sumsOf f s .count) ≤ thickestWall
@@ -67,10 +62,10 @@ module _ (f : Format) (s : List ℕ) (fit : NumbersFit f s) where
   shell-outer-at-least =
       outer-at-least (sumsOf f s .readings) (sumsOf f s .lengths)
       (omega (arith, file-sums f s fit .some, fit .placed .someCourse))
-      (readings-at-least s (courses f s) (course-passes f s fit) (courses f s .count) (le-refl (courses f s .count)))
+      (readings-at-least f s (courses-fit f s fit) (courses f s .count) (le-refl (courses f s .count)))
 
   pub head-outer-at-least : smallestOuter ≤ outerDiameter (word s leftAt + word s rightAt) 1
-  head-outer-at-least = outer-at-least (word s leftAt + word s rightAt) 1 (omega arith) (omega (arith, ends-fit f s fit))
+  head-outer-at-least = outer-at-least (word s leftAt + word s rightAt) 1 (omega arith) (omega (arith, ends-fit f s (as-they-stand f s fit)))
 
   -- so nothing is cut at 0
 

@@ -4,6 +4,7 @@ ghost use Rattle.refusal.specs.declared.Verdict.{Verdict};
 ghost use Rattle.measure.specs.Quantity.{diameter, diameterUnits};
 ghost use Rattle.survey.specs.Word.{word};
 ghost use Rattle.survey.specs.Layout.{dhAt};
+ghost use Rattle.survey.specs.Format.{format48};
 ghost use Rattle.survey.specs.Section.{deadwood};
 ghost use Rattle.survey.specs.SectionLaws.{Readable, Placed};
 ghost use Rattle.survey.specs.Survey.{filledUp, itemsOf, surveyWith, noSurvey, decodedBy, decodedAs, decoded};
@@ -127,4 +128,12 @@ pub fn decode(s: &[u8]) -> Decoded
     ensures { λ r. ⌜ WithinLimits r ⌝ }
 {
     decode_as(Format::today(), s)
+}
+
+// .. with a header of 48 bytes.
+pub fn decode_48(s: &[u8]) -> Decoded
+    ensures { λ r. ⌜ r ≡ decodedAs format48 (now (s .entry)) ⌝ }
+    ensures { λ r. ⌜ WithinLimits r ⌝ }
+{
+    decode_as(Format::header_of_48(), s)
 }

@@ -1,6 +1,6 @@
 // The sums over the courses, and D1 and D2 made of them.
 ghost use mathlib.Core.Path.{_≡_};
-ghost use Prim.Native.Nat.{_+_, _*_, _-_, _^_, _≤_, _<_};
+ghost use Prim.Native.Nat.{_+_, _*_, _^_, _≤_, _<_};
 ghost use lib.ListN.{length};
 ghost use Rattle.laws.specs.Order.{pick};
 ghost use Rattle.measure.specs.Diameter.{smallest, largest};
@@ -8,13 +8,19 @@ ghost use Rattle.measure.specs.Pi.{piUnder};
 ghost use Rattle.measure.specs.Quantity.{diameter};
 ghost use Rattle.tank.specs.Limits.{longestShell};
 ghost use Rattle.survey.specs.Limits.{mostCourses};
-ghost use Rattle.survey.specs.Dimensions.{sumOf, added, sumsOver, allowance, lengthsFit, outerDiameter, wall, shellDiameter, headDiameter, diameterFits, dimensions, headsTested};
+ghost use Rattle.survey.specs.Dimensions.{sumOf, added, sumsOf, allowance, lengthsFit, outerDiameter, wall, shellDiameter, headDiameter, diameterFits, dimensions, headsTested};
 ghost use Rattle.survey.specs.Layout.{courseEnd};
-ghost use Rattle.survey.specs.CourseLaws.{CourseFits, Courses, SumsSmall};
+ghost use Rattle.survey.specs.SectionLaws.{Readable};
+ghost use Rattle.survey.specs.CourseLaws.{CourseFits, SumsSmall};
+ghost use Rattle.survey.specs.FitLaws.{NumbersFit};
+use crate::format::Format;
 use crate::layout;
+use crate::less::less;
 use crate::limits::COURSE_ALLOWANCE;
 use crate::limits::FARTHEST;
-use crate::section::Section;
+use crate::reading::corrected_at;
+use crate::reading::rise_of;
+use crate::section::courses;
 use crate::section::record_at;
 use crate::word::word;
 use arith::nearest::nearest_quotient;
@@ -42,13 +48,13 @@ pub enum Dimensions {
     Refused(Refusal),
 }
 
-// What the course at a byte adds.
-fn sum_of(s: &[u8], at: usize) -> Sums
-    requires { ⌜ (at + courseEnd ≤ length (now s)) × CourseFits (now s) at ⌝ }
-    ensures { λ r. ⌜ r ≡ sumOf (now (s .entry)) at ⌝ }
+// What the course at a byte adds, its circumferences having lost the tape rise.
+fn sum_of(s: &[u8], at: usize, rise: u64) -> Sums
+    requires { ⌜ (at + courseEnd ≤ length (now s)) × CourseFits (now s) at rise ⌝ }
+    ensures { λ r. ⌜ r ≡ sumOf (now (s .entry)) at rise ⌝ }
 {
-    let first = word(s, at + layout::FIRST_CIRCUMFERENCE) as u64;
-    let second = word(s, at + layout::SECOND_CIRCUMFERENCE) as u64;
+    let first = corrected_at(s, at + layout::FIRST_CIRCUMFERENCE, rise);
+    let second = corrected_at(s, at + layout::SECOND_CIRCUMFERENCE, rise);
     let length = word(s, at + layout::COURSE_LENGTH) as u64;
     let thickness = word(s, at + layout::THICKNESS) as u64;
     Sums {
@@ -71,12 +77,13 @@ fn add(t: Sums, u: Sums) -> Sums
     }
 }
 
-// Over all courses of their section.
-pub fn sums_over(section: Section, s: &[u8]) -> Sums
-    requires { ⌜ Courses (now s) section ⌝ }
-    ensures { λ r. ⌜ r ≡ sumsOver (now (s .entry)) section (section .count) ⌝ }
+// Over all courses of a file that passes refusals 1 to 5.
+pub fn file_sums(f: Format, s: &[u8]) -> Sums
+    requires { ⌜ Readable f × NumbersFit f (now s) ⌝ }
+    ensures { λ r. ⌜ r ≡ sumsOf f (now (s .entry)) ⌝ }
+    ensures { λ r. ⌜ SumsSmall r × (1 ≤ r .lengths) × (1 ≤ r .count) ⌝ }
 {
-    let x = section;
+    let x = courses(f, s);
     let count = x.count;
     let mut t = Sums {
         readings: 0,
@@ -86,7 +93,7 @@ pub fn sums_over(section: Section, s: &[u8]) -> Sums
     };
     let mut i: usize = 0;
     while i < count {
-        t = add(t, sum_of(s, record_at(x, i)));
+        t = add(t, sum_of(s, record_at(x, i), rise_of(f, s, i)));
         i += 1;
     }
     t
@@ -124,19 +131,12 @@ fn wall(t: Sums) -> u64
     nearest_quotient(2 * t.thicknesses, t.count)
 }
 
-// A wall thicker than the diameter leaves 0.
-fn inside(outer: u64, wall: u64) -> u64
-    ensures { λ r. ⌜ r ≡ outer - wall ⌝ }
-{
-    if wall <= outer { outer - wall } else { 0 }
-}
-
 // D1, from the courses.
 pub fn shell_diameter(t: Sums) -> u64
     requires { ⌜ SumsSmall t × (1 ≤ t .lengths) × (1 ≤ t .count) ⌝ }
     ensures { λ r. ⌜ r ≡ shellDiameter t ⌝ }
 {
-    inside(outer_diameter(t.readings, t.lengths), wall(t))
+    less(outer_diameter(t.readings, t.lengths), wall(t))
 }
 
 // D2, of flange and head, from the circumferences at the shell's ends.
@@ -144,7 +144,7 @@ pub fn head_diameter(t: Sums, left: u32, right: u32) -> u64
     requires { ⌜ SumsSmall t × (1 ≤ t .count) ⌝ }
     ensures { λ r. ⌜ r ≡ headDiameter t left right ⌝ }
 {
-    inside(outer_diameter(left as u64 + right as u64, 1), wall(t))
+    less(outer_diameter(left as u64 + right as u64, 1), wall(t))
 }
 
 // The diameter of so many u, where it is within its limits and not far from DH.

@@ -4,30 +4,36 @@ ghost use Prim.Native.Nat.{_^_, _≤_, _<_};
 ghost use lib.ListN.{length};
 ghost use Rattle.measure.specs.Diameter.{smallest, largest};
 ghost use Rattle.survey.specs.Layout.{headerEnd};
-ghost use Rattle.survey.specs.SectionLaws.{Readable};
-ghost use Rattle.survey.specs.SurveyLaws.{NumbersFit};
-ghost use Rattle.survey.specs.Fault.{faultWith, unknown, sizeFault, countFault, placeFault, passed, numbersPass};
+ghost use Rattle.survey.specs.Format.{format48};
+ghost use Rattle.survey.specs.SectionLaws.{Readable, Small};
+ghost use Rattle.survey.specs.FitLaws.{NumbersFit};
+ghost use Rattle.survey.specs.Fault.{faultWith, unknown, sizeFault, lastFault, countFault, overlap, placeFault, passed, limitsPass, numberFault, numbersPass};
 ghost use Rattle.survey.specs.Fault.{lengthsFault, diameterFault, headLengthFault, dimensionFault, rowFault, headedFault, faultAs, faultOf};
 use crate::dimensions::allowance;
+use crate::dimensions::file_sums;
 use crate::dimensions::fitting;
 use crate::dimensions::head_diameter;
 use crate::dimensions::shell_diameter;
 use crate::field::header_fault;
-use crate::field::number_fault;
+use crate::field::limit_fault;
+use crate::field::reading_fault;
 use crate::format::Format;
-use crate::judge::file_sums;
 use crate::layout;
 use crate::limits::LARGEST_FILE;
-use crate::numbers::numbers_tested;
-use crate::section::Records;
+use crate::limits::MOST_COURSES;
+use crate::numbers::limits_tested;
+use crate::reading::readings_tested;
+use crate::section::Section;
 use crate::section::are_apart;
 use crate::section::count_fits;
 use crate::section::courses;
 use crate::section::deadwood;
 use crate::section::is_placed;
 use crate::section::layout_tested;
+use crate::section::seams;
 use crate::sentence;
 use crate::word::word;
+use deadwood::item::MOST_ITEMS;
 use heads::kind::HeadKind;
 use heads::length::shortest_of;
 use measure::diameter::Diameter;
@@ -80,38 +86,64 @@ fn size_fault(f: Format, s: &[u8]) -> Fault
     fault_with(sentence::OF_LARGE_FILE, 0, 0, low, high)
 }
 
-// Refusal 2: the courses' count where that does not fit, else the deadwood's.
+// The header's number at a byte of the deadwood's words, and at the same byte of the seams' where the format has them.
+fn last_fault(f: Format, s: &[u8], k: usize) -> Fault
+    requires { ⌜ Readable f × (f .header ≤ length (now s)) × (k ≤ 4) ⌝ }
+    ensures { λ r. ⌜ r ≡ lastFault f (now (s .entry)) k ⌝ }
+{
+    if f.has_seams() {
+        return header_fault(f, s, layout::SEAMS + k);
+    }
+    header_fault(f, s, layout::DEADWOOD + k)
+}
+
+// Refusal 2: the first count that is outside its limits.
 fn count_fault(f: Format, s: &[u8]) -> Fault
     requires { ⌜ Readable f × (f .header ≤ length (now s)) ⌝ }
     ensures { λ r. ⌜ r ≡ countFault f (now (s .entry)) ⌝ }
 {
-    let c = courses(f, s);
-    if count_fits(Records::Courses, c.count) {
+    if !count_fits(1, courses(f, s), MOST_COURSES) {
+        return header_fault(f, s, layout::COURSES);
+    }
+    if !count_fits(0, deadwood(f, s), MOST_ITEMS) {
         return header_fault(f, s, layout::DEADWOOD);
     }
-    header_fault(f, s, layout::COURSES)
+    last_fault(f, s, 0)
 }
 
-// Refusal 3: the courses' place, then that the deadwood overlaps them, then the deadwood's place.
+// A section that overlaps one before it in the header.
+fn overlap(sentence: u32, x: Section) -> Fault
+    requires { ⌜ Small x ⌝ }
+    ensures { λ r. ⌜ r ≡ overlap sentence x ⌝ }
+{
+    fault_with(sentence, x.count as u32, x.offset as u64, 0, 0)
+}
+
+// Refusal 3, as its tests are ordered: a section's place, and then which of those behind it in the header overlap it.
 fn place_fault(f: Format, s: &[u8]) -> Fault
     requires { ⌜ Readable f × (f .header ≤ length (now s)) ⌝ }
     ensures { λ r. ⌜ r ≡ placeFault f (now (s .entry)) ⌝ }
 {
     let c = courses(f, s);
-    if !is_placed(f.header, s.len(), c) {
+    let d = deadwood(f, s);
+    let e = seams(f, s);
+    let header = f.header;
+    if !is_placed(header, s.len(), c) {
         return header_fault(f, s, layout::COURSES + 4);
     }
-    let d = deadwood(f, s);
-    if are_apart(c, d) {
+    if !are_apart(c, d) {
+        return overlap(sentence::OF_OVERLAP, d);
+    }
+    if !are_apart(c, e) {
+        return overlap(sentence::OF_SEAMS_OVER_COURSES, e);
+    }
+    if !is_placed(header, s.len(), d) {
         return header_fault(f, s, layout::DEADWOOD + 4);
     }
-    fault_with(
-        sentence::OF_OVERLAP,
-        word(s, layout::DEADWOOD),
-        word(s, layout::DEADWOOD + 4) as u64,
-        0,
-        0,
-    )
+    if !are_apart(d, e) {
+        return overlap(sentence::OF_SEAMS_OVER_DEADWOOD, e);
+    }
+    last_fault(f, s, 4)
 }
 
 // Whether a verdict refuses nothing.
@@ -124,10 +156,10 @@ fn passed(v: Verdict) -> bool
     }
 }
 
-// Whether a file that has its header passes refusals 1 to 5.
-fn numbers_pass(f: Format, s: &[u8]) -> bool
+// Whether a file that has its header passes refusals 1 to 4, and 5 of every number as it stands.
+fn limits_pass(f: Format, s: &[u8]) -> bool
     requires { ⌜ Readable f × (f .header ≤ length (now s)) ⌝ }
-    ensures { λ r. ⌜ r ≡ numbersPass f (now (s .entry)) ⌝ }
+    ensures { λ r. ⌜ r ≡ limitsPass f (now (s .entry)) ⌝ }
 {
     if !is_within(f.header as u64, s.len() as u64, LARGEST_FILE as u64) {
         return false;
@@ -135,7 +167,29 @@ fn numbers_pass(f: Format, s: &[u8]) -> bool
     if !passed(layout_tested(f, s)) {
         return false;
     }
-    passed(numbers_tested(f, s))
+    passed(limits_tested(f, s))
+}
+
+// Refusal 5: of a file that does, no number is left to refuse but a corrected reading.
+fn number_fault(f: Format, s: &[u8], place: u32) -> Fault
+    requires { ⌜ Readable f × (f .header ≤ length (now s)) ⌝ }
+    ensures { λ r. ⌜ r ≡ numberFault f (now (s .entry)) place ⌝ }
+{
+    if limits_pass(f, s) {
+        return reading_fault(f, s, place);
+    }
+    limit_fault(f, s, place)
+}
+
+// Whether a file that has its header passes refusals 1 to 5.
+fn numbers_pass(f: Format, s: &[u8]) -> bool
+    requires { ⌜ Readable f × (f .header ≤ length (now s)) ⌝ }
+    ensures { λ r. ⌜ r ≡ numbersPass f (now (s .entry)) ⌝ }
+{
+    if !limits_pass(f, s) {
+        return false;
+    }
+    passed(readings_tested(f, s))
 }
 
 // Refusal 6.
@@ -258,4 +312,11 @@ pub fn fault_of(s: &[u8], number: u32, place: u32) -> Fault
     ensures { λ r. ⌜ r ≡ faultOf (now (s .entry)) number place ⌝ }
 {
     fault_as(Format::today(), s, number, place)
+}
+
+// .. of a file with a header of 48 bytes.
+pub fn fault_of_48(s: &[u8], number: u32, place: u32) -> Fault
+    ensures { λ r. ⌜ r ≡ faultAs format48 (now (s .entry)) number place ⌝ }
+{
+    fault_as(Format::header_of_48(), s, number, place)
 }

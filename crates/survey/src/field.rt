@@ -1,12 +1,15 @@
 // What a refused number of the file is: the header's word or the record's word that starts at a byte, with its limits.
 ghost use mathlib.Core.Path.{_≡_};
-ghost use Prim.Native.Nat.{_+_, _^_, _≤_, _<_};
+ghost use Prim.Native.Nat.{_+_, _%_, _^_, _≤_, _<_};
 ghost use lib.ListN.{length};
-ghost use Rattle.survey.specs.Layout.{headerEnd, courseEnd};
+ghost use Rattle.laws.specs.Order.{pick};
+ghost use Rattle.survey.specs.Layout.{headerEnd, seamHeaderEnd, lengthIn, courseEnd, seamEnd, wordsEnd};
+ghost use Rattle.survey.specs.Limits.{mostCourses};
 ghost use Rattle.survey.specs.Section.{recordLong, sections};
 ghost use Rattle.survey.specs.SectionLaws.{Readable, Small};
-ghost use Rattle.survey.specs.Fault.{limits, lengthLimits, offsetLimits, headerLimits, courseLimits, limitsAt, headerItem, headerFault};
-ghost use Rattle.survey.specs.Fault.{courseFault, volumeFault, itemFault, recordFault, holds, startsWord, fieldFault, sectionsFault, numberFault};
+ghost use Rattle.survey.specs.FitLaws.{LimitsFit};
+ghost use Rattle.survey.specs.Fault.{limits, lengthLimits, offsetLimits, headerLimits, courseLimits, seamLimits, limitsAt, headerItem, wordFault, headerFault};
+ghost use Rattle.survey.specs.Fault.{courseFault, seamFault, volumeFault, itemFault, recordFault, holds, startsWord, fieldFault, sectionsFault, limitFault, correctedFault, readingFault};
 use crate::fault::Fault;
 use crate::fault::fault_with;
 use crate::fault::unknown;
@@ -20,13 +23,19 @@ use crate::limits::SHORTEST_COURSE;
 use crate::limits::SHORTEST_SHELL;
 use crate::limits::THICKEST;
 use crate::limits::THINNEST;
+use crate::reading::corrected_at;
+use crate::reading::rise_of;
 use crate::section::Records;
 use crate::section::Section;
 use crate::section::courses;
 use crate::section::deadwood;
 use crate::section::record_at;
+use crate::section::seam_items;
+use crate::section::seams;
+use crate::sentence::OF_CORRECTED;
 use crate::sentence::OF_COURSES;
 use crate::sentence::OF_DEADWOOD;
+use crate::sentence::OF_SEAMS;
 use crate::word::signed_word;
 use crate::word::word;
 use deadwood::item::LARGEST_VOLUME;
@@ -37,6 +46,9 @@ use heads::length::shortest_of;
 use measure::diameter::Diameter;
 use schedule::LARGEST_STEP;
 use schedule::SMALLEST_STEP;
+use seams::seam::MOST_SEAMS;
+use seams::seam::THICKEST_SEAM;
+use seams::seam::WIDEST_SEAM;
 use tank::limits::LONGEST_FLANGE;
 use tank::limits::LONGEST_SHELL;
 
@@ -72,12 +84,13 @@ fn offset_limits(f: Format, s: &[u8]) -> Limits
 
 // Of word w of the header.
 fn header_limits(f: Format, s: &[u8], w: usize) -> Limits
-    requires { ⌜ Readable f × (f .header ≤ length (now s)) × (w < 12) ⌝ }
+    requires { ⌜ Readable f × (f .header ≤ length (now s)) × (w < 14) ⌝ }
     ensures { λ r. ⌜ r ≡ limitsAt (headerLimits f (now (s .entry))) w ⌝ }
 {
     let circumference = between(SHORTEST_CIRCUMFERENCE, LONGEST_CIRCUMFERENCE);
     let offset = offset_limits(f, s);
     let kind = HeadKind::of(word(s, layout::KIND));
+    let items = seam_items(f, s) as u32;
     let list = [
         between(0, 2),
         between(Diameter::SMALLEST, Diameter::LARGEST),
@@ -91,13 +104,15 @@ fn header_limits(f: Format, s: &[u8], w: usize) -> Limits
         offset,
         between(0, MOST_ITEMS as u32),
         offset,
+        between(items, items),
+        offset,
     ];
     list[w]
 }
 
 // The count of a section's records, where the byte is that of their offset; else 0.
 fn header_item(s: &[u8], at: usize) -> u32
-    requires { ⌜ (headerEnd ≤ length (now s)) × (at + 4 ≤ headerEnd) ⌝ }
+    requires { ⌜ (headerEnd ≤ length (now s)) × (at + 4 ≤ length (now s)) ⌝ }
     ensures { λ r. ⌜ r ≡ headerItem (now (s .entry)) at ⌝ }
 {
     if at == layout::COURSES + 4 {
@@ -106,23 +121,27 @@ fn header_item(s: &[u8], at: usize) -> u32
     if at == layout::DEADWOOD + 4 {
         return word(s, layout::DEADWOOD);
     }
+    if at == layout::SEAMS + 4 {
+        return word(s, layout::SEAMS);
+    }
     0
+}
+
+// The number at a byte, which misses these limits.
+fn word_fault(sentence: u32, of: Limits, s: &[u8], at: usize, item: u32) -> Fault
+    requires { ⌜ at + 4 ≤ length (now s) ⌝ }
+    ensures { λ r. ⌜ r ≡ wordFault sentence of (now (s .entry)) at item ⌝ }
+{
+    fault_with(sentence, item, word(s, at) as u64, of.low, of.high)
 }
 
 // The header's number at a byte.
 pub fn header_fault(f: Format, s: &[u8], at: usize) -> Fault
-    requires { ⌜ Readable f × (f .header ≤ length (now s)) × (at + 4 ≤ headerEnd) ⌝ }
+    requires { ⌜ Readable f × (f .header ≤ length (now s)) × (at + 4 ≤ f .header) × (at + 4 ≤ seamHeaderEnd) ⌝ }
     ensures { λ r. ⌜ r ≡ headerFault f (now (s .entry)) at ⌝ }
 {
     let w = at / 4;
-    let of = header_limits(f, s, w);
-    fault_with(
-        w as u32,
-        header_item(s, at),
-        word(s, at) as u64,
-        of.low,
-        of.high,
-    )
+    word_fault(w as u32, header_limits(f, s, w), s, at, header_item(s, at))
 }
 
 // Of word w of a course.
@@ -146,14 +165,29 @@ fn course_fault(s: &[u8], at: usize, item: u32, k: usize) -> Fault
     ensures { λ r. ⌜ r ≡ courseFault (now (s .entry)) at item k ⌝ }
 {
     let w = k / 4;
-    let of = course_limits(w);
-    fault_with(
-        OF_COURSES + w as u32,
-        item,
-        word(s, at) as u64,
-        of.low,
-        of.high,
-    )
+    word_fault(OF_COURSES + w as u32, course_limits(w), s, at, item)
+}
+
+// Of word w of a seam item.
+fn seam_limits(w: usize) -> Limits
+    requires { ⌜ w < 3 ⌝ }
+    ensures { λ r. ⌜ r ≡ limitsAt seamLimits w ⌝ }
+{
+    let list = [
+        between(0, MOST_SEAMS),
+        between(0, THICKEST_SEAM),
+        between(0, WIDEST_SEAM),
+    ];
+    list[w]
+}
+
+// The number at a byte, which is byte k of a seam item.
+fn seam_fault(s: &[u8], at: usize, item: u32, k: usize) -> Fault
+    requires { ⌜ (at + 4 ≤ length (now s)) × (k < seamEnd) ⌝ }
+    ensures { λ r. ⌜ r ≡ seamFault (now (s .entry)) at item k ⌝ }
+{
+    let w = k / 4;
+    word_fault(OF_SEAMS + w as u32, seam_limits(w), s, at, item)
 }
 
 // The volume of a deadwood item, which has a sign.
@@ -196,6 +230,7 @@ fn record_fault(records: Records, s: &[u8], at: usize, item: u32, k: usize) -> F
     match records {
         Records::Courses => course_fault(s, at, item, k),
         Records::Deadwood => item_fault(s, at, item, k),
+        Records::Seams => seam_fault(s, at, item, k),
     }
 }
 
@@ -221,6 +256,7 @@ fn record_long(records: Records) -> usize
     match records {
         Records::Courses => layout::COURSE_END,
         Records::Deadwood => layout::ITEM_END,
+        Records::Seams => layout::SEAM_END,
     }
 }
 
@@ -240,26 +276,44 @@ fn field_fault(x: Section, s: &[u8], place: u32) -> Fault
     record_fault(records, s, at, (behind / size) as u32 + 1, k)
 }
 
-// The number at a byte behind the header: of the courses where these have that byte, else of the deadwood.
+// .. where the section has that byte, else another fault.
+fn in_section(x: Section, s: &[u8], place: u32, other: Fault) -> Fault
+    requires { ⌜ (headerEnd ≤ length (now s)) × (place + 4 ≤ length (now s)) × (recordLong (x .records) ≤ x .size) × Small x ⌝ }
+    ensures { λ r. ⌜ r ≡ pick (holds x place) (fieldFault x (now (s .entry)) place) other ⌝ }
+{
+    if holds(x, place as usize) {
+        return field_fault(x, s, place);
+    }
+    other
+}
+
+// The number at a byte behind the header: of the first of the sections that has that byte.
 fn section_fault(f: Format, s: &[u8], place: u32) -> Fault
     requires { ⌜ Readable f × (f .header ≤ length (now s)) × (place + 4 ≤ length (now s)) ⌝ }
     ensures { λ r. ⌜ r ≡ sectionsFault (sections f (now (s .entry))) (now (s .entry)) place ⌝ }
 {
-    let c = courses(f, s);
-    if holds(c, place as usize) {
-        return field_fault(c, s, place);
-    }
-    let d = deadwood(f, s);
-    if holds(d, place as usize) {
-        return field_fault(d, s, place);
-    }
-    unknown(5, place)
+    let none = unknown(5, place);
+    let of_seams = in_section(seams(f, s), s, place, none);
+    let of_deadwood = in_section(deadwood(f, s), s, place, of_seams);
+    in_section(courses(f, s), s, place, of_deadwood)
 }
 
-// The number at any byte.
-pub fn number_fault(f: Format, s: &[u8], place: u32) -> Fault
+// Behind the last word of a format's header.
+fn words_end(f: Format) -> usize
+    requires { ⌜ Readable f ⌝ }
+    ensures { λ r. ⌜ (r ≡ wordsEnd f) × (r % 4 ≡ 0) × (r ≤ f .header) × (r ≤ seamHeaderEnd) ⌝ }
+{
+    if f.has_seams() {
+        layout::SEAM_HEADER_END
+    } else {
+        layout::HEADER_END
+    }
+}
+
+// The number at any byte, as it stands.
+pub fn limit_fault(f: Format, s: &[u8], place: u32) -> Fault
     requires { ⌜ Readable f × (f .header ≤ length (now s)) ⌝ }
-    ensures { λ r. ⌜ r ≡ numberFault f (now (s .entry)) place ⌝ }
+    ensures { λ r. ⌜ r ≡ limitFault f (now (s .entry)) place ⌝ }
 {
     let at = place as usize;
     if s.len() < at + 4 {
@@ -268,8 +322,42 @@ pub fn number_fault(f: Format, s: &[u8], place: u32) -> Fault
     if f.header <= at {
         return section_fault(f, s, place);
     }
-    if starts_word(at, layout::HEADER_END) {
+    if starts_word(at, words_end(f)) {
         return header_fault(f, s, at);
     }
     unknown(5, place)
+}
+
+// The circumference at a byte, which is byte k of course i, less the tape rise.
+fn corrected_fault(f: Format, s: &[u8], at: usize, i: usize, k: usize) -> Fault
+    requires { ⌜ Readable f × LimitsFit f (now s) × (at + 4 ≤ length (now s)) × (i < mostCourses) × (k < lengthIn) ⌝ }
+    ensures { λ r. ⌜ r ≡ correctedFault f (now (s .entry)) at i k ⌝ }
+{
+    let reading = corrected_at(s, at, rise_of(f, s, i));
+    fault_with(
+        OF_CORRECTED + (k / 4) as u32,
+        i as u32 + 1,
+        reading,
+        SHORTEST_CIRCUMFERENCE,
+        LONGEST_CIRCUMFERENCE,
+    )
+}
+
+// The number at a byte, of a file of which no number is left to refuse but a corrected reading.
+pub fn reading_fault(f: Format, s: &[u8], place: u32) -> Fault
+    requires { ⌜ Readable f × LimitsFit f (now s) ⌝ }
+    ensures { λ r. ⌜ r ≡ readingFault f (now (s .entry)) place ⌝ }
+{
+    let x = courses(f, s);
+    let at = place as usize;
+    if !holds(x, at) {
+        return unknown(5, place);
+    }
+    let size = x.size;
+    let behind = at - x.offset;
+    let k = behind % size;
+    if !starts_word(k, layout::COURSE_LENGTH) {
+        return unknown(5, place);
+    }
+    corrected_fault(f, s, at, behind / size, k)
 }

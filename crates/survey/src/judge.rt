@@ -1,39 +1,25 @@
 // Refusals 1 to 7 and 14 in their order, and the diameters of a file that none of them is given to.
 ghost use mathlib.Core.Path.{_≡_};
-ghost use Prim.Native.Nat.{_≤_};
 ghost use Rattle.refusal.specs.Test.{verdict};
 ghost use Rattle.survey.specs.SectionLaws.{Readable};
-ghost use Rattle.survey.specs.Dimensions.{sumsOf};
-ghost use Rattle.survey.specs.CourseLaws.{SumsSmall};
 ghost use Rattle.survey.specs.Tests.{dimensionTests, fileTests};
 ghost use Rattle.survey.specs.Judged.{judgedBy};
-ghost use Rattle.survey.specs.SurveyLaws.{NumbersFit};
+ghost use Rattle.survey.specs.FitLaws.{NumbersFit};
 use crate::dimensions::Dimensions;
-use crate::dimensions::Sums;
 use crate::dimensions::diameters;
+use crate::dimensions::file_sums;
 use crate::dimensions::heads_tested;
 use crate::dimensions::lengths_fit;
-use crate::dimensions::sums_over;
 use crate::format::Format;
 use crate::layout;
 use crate::limits::LARGEST_FILE;
 use crate::numbers::numbers_tested;
-use crate::section::courses;
 use crate::section::layout_tested;
 use crate::word::word;
 use heads::kind::HeadKind;
 use refusal::Refusal;
 use refusal::Verdict;
 use refusal::limits::is_within;
-
-// The sums over all courses of a file that passes refusals 1 to 5.
-pub fn file_sums(f: Format, s: &[u8]) -> Sums
-    requires { ⌜ Readable f × NumbersFit f (now s) ⌝ }
-    ensures { λ r. ⌜ r ≡ sumsOf f (now (s .entry)) ⌝ }
-    ensures { λ r. ⌜ SumsSmall r × (1 ≤ r .lengths) × (1 ≤ r .count) ⌝ }
-{
-    sums_over(courses(f, s), s)
-}
 
 // A file that passes refusals 1 to 5: refusals 6, 7 and 14.
 fn measured(f: Format, s: &[u8]) -> Dimensions

@@ -1,14 +1,16 @@
 // The survey file: its words and sections, the tests that it must pass, the dimensions made of it, the survey that it holds, and what a
-// refusal of it is about. Nobody else sees a byte of it.
+// refusal of it is about. Nobody above sees a byte of it but who writes an old file anew.
 pub mod decode;
 mod dimensions;
 pub mod fault;
 mod field;
-mod format;
+pub mod format;
 mod judge;
-mod layout;
+pub mod layout;
+mod less;
 mod limits;
 mod numbers;
-mod section;
+mod reading;
+pub mod section;
 pub mod sentence;
 mod word;

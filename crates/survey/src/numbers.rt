@@ -1,22 +1,25 @@
-// Refusal 5: every number of the file within its limits, in the header, then in the sections' records.
+// Refusal 5: every number of the file within its limits as it stands, in the header, then in the sections' records; and then the readings
+// that have lost the tape rise.
 ghost use mathlib.Core.Path.{_≡_};
 ghost use Prim.Native.Nat.{_+_, _^_, _≤_, _<_};
 ghost use lib.ListN.{length};
 ghost use Rattle.refusal.specs.Test.{verdict, firstRefusal};
 ghost use Rattle.survey.specs.Item.{itemFrom};
-ghost use Rattle.survey.specs.Layout.{headerEnd, courseEnd, itemEnd};
+ghost use Rattle.survey.specs.Layout.{headerEnd, courseEnd, itemEnd, seamEnd};
 ghost use Rattle.survey.specs.Section.{recordLong};
 ghost use Rattle.survey.specs.SectionLaws.{Readable, Inside, Placed};
-ghost use Rattle.survey.specs.Tests.{headerTests, courseTests, itemTests, recordTests, sectionTests, numberTests};
+ghost use Rattle.survey.specs.Tests.{headerTests, courseTests, itemTests, seamTests, recordTests, sectionTests, limitTests, numberTests};
 use crate::format::Format;
 use crate::layout;
 use crate::limits;
 use crate::limits::limit;
+use crate::reading::readings_tested;
 use crate::section::Records;
 use crate::section::Section;
 use crate::section::courses;
 use crate::section::deadwood;
 use crate::section::record_at;
+use crate::section::seams;
 use crate::word::signed_word;
 use crate::word::word;
 use deadwood::item::Deadwood;
@@ -29,6 +32,9 @@ use refusal::first_refusal;
 use refusal::next_test;
 use schedule::LARGEST_STEP;
 use schedule::SMALLEST_STEP;
+use seams::seam::MOST_SEAMS;
+use seams::seam::THICKEST_SEAM;
+use seams::seam::WIDEST_SEAM;
 use tank::limits::LONGEST_FLANGE;
 use tank::limits::LONGEST_SHELL;
 
@@ -108,6 +114,16 @@ fn item_tested(so_far: Verdict, s: &[u8], at: usize) -> Verdict
     next_test(v, 5, (at + layout::ITEM_VOLUME) as u32, item.volume_fits())
 }
 
+// The verdict so far, and then the numbers of the seam item at a byte.
+fn seam_tested(so_far: Verdict, s: &[u8], at: usize) -> Verdict
+    requires { ⌜ (at + seamEnd ≤ length (now s)) × (at + seamEnd < 2 ^ 32) ⌝ }
+    ensures { λ r. ⌜ r ≡ firstRefusal «so_far» (verdict (seamTests (now (s .entry)) at)) ⌝ }
+{
+    let v = limit(so_far, s, at + layout::SEAM_NUMBER, 0, MOST_SEAMS);
+    let v = limit(v, s, at + layout::SEAM_THICKNESS, 0, THICKEST_SEAM);
+    limit(v, s, at + layout::SEAM_WIDTH, 0, WIDEST_SEAM)
+}
+
 // The verdict so far, and then the numbers of the record at a byte.
 fn record_tested(records: Records, so_far: Verdict, s: &[u8], at: usize) -> Verdict
     requires { ⌜ (headerEnd ≤ length (now s)) × (at + recordLong records ≤ length (now s)) × (at + recordLong records < 2 ^ 32) ⌝ }
@@ -116,6 +132,7 @@ fn record_tested(records: Records, so_far: Verdict, s: &[u8], at: usize) -> Verd
     match records {
         Records::Courses => course_tested(so_far, s, at),
         Records::Deadwood => item_tested(so_far, s, at),
+        Records::Seams => seam_tested(so_far, s, at),
     }
 }
 
@@ -136,13 +153,29 @@ fn section_tested(section: Section, s: &[u8]) -> Verdict
     v
 }
 
-// All numbers of a file whose sections are well placed.
-pub fn numbers_tested(f: Format, s: &[u8]) -> Verdict
+// All numbers, as they stand, of a file whose sections are well placed.
+pub fn limits_tested(f: Format, s: &[u8]) -> Verdict
     requires { ⌜ Readable f × Placed f (now s) ⌝ }
-    ensures { λ r. ⌜ r ≡ verdict (numberTests f (now (s .entry))) ⌝ }
+    ensures { λ r. ⌜ r ≡ verdict (limitTests f (now (s .entry))) ⌝ }
 {
     let header = header_tested(s);
     let of_courses = section_tested(courses(f, s), s);
     let of_deadwood = section_tested(deadwood(f, s), s);
-    first_refusal(header, first_refusal(of_courses, of_deadwood))
+    let of_seams = section_tested(seams(f, s), s);
+    first_refusal(
+        header,
+        first_refusal(of_courses, first_refusal(of_deadwood, of_seams)),
+    )
+}
+
+// .. and the corrected readings, of a file whose numbers are within their limits.
+pub fn numbers_tested(f: Format, s: &[u8]) -> Verdict
+    requires { ⌜ Readable f × Placed f (now s) ⌝ }
+    ensures { λ r. ⌜ r ≡ verdict (numberTests f (now (s .entry))) ⌝ }
+{
+    let v = limits_tested(f, s);
+    match v {
+        Verdict::Refused(r) => Verdict::Refused(r),
+        Verdict::Passed => readings_tested(f, s),
+    }
 }

@@ -3,8 +3,8 @@
 ghost use mathlib.Core.Path.{_≡_};
 ghost use Prim.Native.Nat.{_+_, _^_, _≤_, _<_};
 ghost use lib.ListN.{length};
-ghost use Rattle.refusal.specs.Test.{verdict};
-ghost use Rattle.survey.specs.Section.{sectionAt, courses, deadwood, recordAt, countFits, placed, apart};
+ghost use Rattle.refusal.specs.Test.{verdict, within};
+ghost use Rattle.survey.specs.Section.{sectionAt, courses, deadwood, seams, seamItems, recordAt, placed, apart};
 ghost use Rattle.survey.specs.SectionLaws.{longestRecord, Readable, Small};
 ghost use Rattle.survey.specs.Tests.{layoutTests};
 use crate::format::Format;
@@ -14,11 +14,13 @@ use crate::word::word;
 use deadwood::item::MOST_ITEMS;
 use heads::kind::HeadKind;
 use refusal::Verdict;
+use refusal::limits::is_within;
 use refusal::next_test;
 
 pub enum Records {
     Courses,
     Deadwood,
+    Seams,
 }
 
 pub struct Section {
@@ -55,6 +57,33 @@ pub fn deadwood(f: Format, s: &[u8]) -> Section
     section_at(Records::Deadwood, layout::DEADWOOD, f.deadwood, s)
 }
 
+// One that the format lacks is empty.
+pub(crate) fn seams(f: Format, s: &[u8]) -> Section
+    requires { ⌜ Readable f × (f .header ≤ length (now s)) ⌝ }
+    ensures { λ r. ⌜ (r ≡ seams f (now (s .entry))) × Small r ⌝ }
+{
+    if f.has_seams() {
+        return section_at(Records::Seams, layout::SEAMS, f.seam, s);
+    }
+    Section {
+        records: Records::Seams,
+        count: 0,
+        offset: 0,
+        size: f.seam,
+    }
+}
+
+// How many seam items there must be.
+pub(crate) fn seam_items(f: Format, s: &[u8]) -> usize
+    requires { ⌜ Readable f × (f .header ≤ length (now s)) ⌝ }
+    ensures { λ r. ⌜ (r ≡ seamItems f (now (s .entry))) × (r < 2 ^ 32) ⌝ }
+{
+    if f.has_seams() {
+        return word(s, layout::COURSES) as usize;
+    }
+    0
+}
+
 // The byte where record i starts; at the count, the byte behind the last.
 pub fn record_at(x: Section, i: usize) -> usize
     requires { ⌜ recordAt x i < 2 ^ 63 ⌝ }
@@ -63,18 +92,15 @@ pub fn record_at(x: Section, i: usize) -> usize
     x.offset + x.size * i
 }
 
-// The count of a section of such records is within its limits.
-pub fn count_fits(records: Records, count: usize) -> bool
-    ensures { λ r. ⌜ r ≡ countFits records count ⌝ }
+// A section has so many records.
+pub(crate) fn count_fits(fewest: usize, x: Section, most: usize) -> bool
+    ensures { λ r. ⌜ r ≡ within fewest (x .count) most ⌝ }
 {
-    match records {
-        Records::Courses => 1 <= count && count <= limits::MOST_COURSES,
-        Records::Deadwood => count <= MOST_ITEMS,
-    }
+    is_within(fewest as u64, x.count as u64, most as u64)
 }
 
 // Behind the header and inside the file; an empty section's offset is not looked at.
-pub fn is_placed(header: usize, file_size: usize, x: Section) -> bool
+pub(crate) fn is_placed(header: usize, file_size: usize, x: Section) -> bool
     requires { ⌜ Small x ⌝ }
     ensures { λ r. ⌜ r ≡ placed header «file_size» x ⌝ }
 {
@@ -85,7 +111,7 @@ pub fn is_placed(header: usize, file_size: usize, x: Section) -> bool
 }
 
 // No byte in both.
-pub fn are_apart(x: Section, y: Section) -> bool
+pub(crate) fn are_apart(x: Section, y: Section) -> bool
     requires { ⌜ Small x × Small y ⌝ }
     ensures { λ r. ⌜ r ≡ apart x y ⌝ }
 {
@@ -102,17 +128,28 @@ pub fn are_apart(x: Section, y: Section) -> bool
 }
 
 // Refusals 2 to 4 of a file that has its header.
-pub fn layout_tested(f: Format, s: &[u8]) -> Verdict
+pub(crate) fn layout_tested(f: Format, s: &[u8]) -> Verdict
     requires { ⌜ Readable f × (f .header ≤ length (now s)) ⌝ }
     ensures { λ r. ⌜ r ≡ verdict (layoutTests f (now (s .entry))) ⌝ }
 {
     let c = courses(f, s);
     let d = deadwood(f, s);
+    let e = seams(f, s);
     let header = f.header;
-    let v = next_test(Verdict::Passed, 2, 0, count_fits(Records::Courses, c.count));
-    let v = next_test(v, 2, 0, count_fits(Records::Deadwood, d.count));
+    let v = next_test(
+        Verdict::Passed,
+        2,
+        0,
+        count_fits(1, c, limits::MOST_COURSES),
+    );
+    let v = next_test(v, 2, 0, count_fits(0, d, MOST_ITEMS));
+    let items = seam_items(f, s);
+    let v = next_test(v, 2, 0, count_fits(items, e, items));
     let v = next_test(v, 3, 0, is_placed(header, s.len(), c));
     let v = next_test(v, 3, 0, are_apart(c, d));
+    let v = next_test(v, 3, 0, are_apart(c, e));
     let v = next_test(v, 3, 0, is_placed(header, s.len(), d));
+    let v = next_test(v, 3, 0, are_apart(d, e));
+    let v = next_test(v, 3, 0, is_placed(header, s.len(), e));
     next_test(v, 4, 0, HeadKind::is_known(word(s, layout::KIND)))
 }

@@ -1,5 +1,6 @@
 // From a survey to its capacity table.
 mod copy;
+pub mod judge;
 pub mod make;
 mod rows;
 mod tests;

@@ -94,6 +94,11 @@ put-no-byte at b l h = record {
 pub put-length : {at next : ℕ} {t before after : List ℕ} → Put at t before after next → length after ≡ length before
 put-length {at} {next} {t} {before} {after} put = ap length (put .memory) ∙ length-put at t before
 
+-- a text that fits at the start of a memory stands there whole, and behind it what stood there
+pub put-fits : {next : ℕ} {t before after : List ℕ} → Put 0 t before after next → length t ≤ length before
+    → (after ≡ t ++ drop (length t) before) × (next ≡ length t)
+put-fits {next} {t} {before} {after} put fits = (put .memory ∙ overwritten-fits t before fits, omega (arith, put .next-is))
+
 -- a text that is no longer than so much
 pub says : {room next : ℕ} {t before after : List ℕ} → length t ≤ room → Put 0 t before after next → Says room t before after next
 says {room} {next} {t} {before} {after} short put =

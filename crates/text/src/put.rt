@@ -4,6 +4,7 @@ ghost use mathlib.Core.Path.{_≡_};
 ghost use mathlib.Core.List.{[], _∷_};
 ghost use Prim.Native.Nat.{_%_};
 ghost use lib.IntN.{natAbs};
+ghost use lib.ListN.{take};
 ghost use Rattle.text.specs.Digits.{digitOf, digits, twoDecimals, hundredths, threeDigits, inThrees, grouped, minusOf, signOf};
 ghost use Rattle.text.specs.Put.{Put};
 
@@ -20,7 +21,7 @@ pub fn put_byte(out: &mut [u8], at: usize, b: u8) -> usize
     at + 1
 }
 
-pub(crate) fn put_bytes(out: &mut [u8], at: usize, s: &[u8]) -> usize
+pub fn put_bytes(out: &mut [u8], at: usize, s: &[u8]) -> usize
     ensures { λ r. ⌜ Put at (now (s .entry)) (now (out .entry)) (now (out .exit)) r ⌝ }
 {
     let mut next = at;
@@ -30,6 +31,16 @@ pub(crate) fn put_bytes(out: &mut [u8], at: usize, s: &[u8]) -> usize
         i += 1;
     }
     next
+}
+
+// The first n bytes of s; all of it where it has no more.
+pub fn put_first(out: &mut [u8], at: usize, s: &[u8], n: usize) -> usize
+    ensures { λ r. ⌜ Put at (take n (now (s .entry))) (now (out .entry)) (now (out .exit)) r ⌝ }
+{
+    if n <= s.len() {
+        return put_bytes(out, at, &s[..n]);
+    }
+    put_bytes(out, at, s)
 }
 
 // The last digit of n.

@@ -31,31 +31,41 @@ sentences =
     "byte offset of the courses $: its # records must start at byte < or later and end inside the file of > bytes" ∷
     "deadwood count $: must be < to >" ∷
     "byte offset of the deadwood $: its # records must start at byte < or later and end inside the file of > bytes" ∷
-    -- 12 on: a course's words
+    "seam count $: must be >, the course count" ∷
+    "byte offset of the seams $: its # records must start at byte < or later and end inside the file of > bytes" ∷
+    -- 14 on: a course's words
     "course #, first circumference $ (~ mm): must be < to >" ∷
     "course #, second circumference $ (~ mm): must be < to >" ∷
     "course #, length $ (~ mm): must be < to >" ∷
     "course #, thickness $ (~ mm): must be < to >" ∷
-    -- 16 on: a deadwood item's words
+    -- 18 on: a deadwood item's words
     "deadwood item #, low height $ (~ mm): must be below its high height" ∷
     "deadwood item #, high height $ (~ mm): must be above its low height and at most DH >" ∷
     "deadwood item #, volume $ (~ L): must be < to >" ∷
-    -- 19 on: the file, and what is made of it
+    -- 21 on: a seam item's words
+    "seams of course #, number $: must be < to >" ∷
+    "seams of course #, thickness $ (~ mm): must be < to >" ∷
+    "seams of course #, width $ (~ mm): must be < to >" ∷
+    -- 24 on: the file, and what is made of it
     "file of $ bytes: must have < to >" ∷
     "file of more than > bytes: must have < to >" ∷
     "byte offset of the deadwood $: its # records must not overlap the courses" ∷
+    "byte offset of the seams $: its # records must not overlap the courses" ∷
+    "byte offset of the seams $: its # records must not overlap the deadwood" ∷
+    "course #, first circumference less the tape rise over its seams $ (~ mm): must be < to >" ∷
+    "course #, second circumference less the tape rise over its seams $ (~ mm): must be < to >" ∷
     "sum of the course lengths $ (~ mm): must be < to >, the shell length L1 give or take 100 for each course" ∷
     "shell diameter D1 $ (~ mm): must be < to > and at most 10000 from DH #" ∷
     "head diameter D2 $ (~ mm): must be < to > and at most 10000 from DH #" ∷
     "head length L3 $ (~ mm): must be at most > for spherical caps, half the head diameter D2 #" ∷
-    -- 26 on: the table
+    -- 35 on: the table
     "lent table: must have a cell for each row" ∷
     "row # at dip height $ (~ mm): must not be below the row before; the deadwood is larger than the room there" ∷
     "row # at dip height $ (~ mm): must not be below zero" ∷
-    -- 29 on: the lookups
+    -- 38 on: the lookups
     "dip height $ (~ mm): must be at most DH >" ∷
     "volume $ (~ L): must be at most the last row, >" ∷
-    -- 31 on: any other
+    -- 40 on: any other
     "refusal # at place $: not one of this survey's" ∷
     [])
 

@@ -40,6 +40,8 @@ pub fn put_words(out: &mut [u8], at: usize, fault: Fault) -> usize
         byte offset of the courses $: its # records must start at byte < or later and end inside the file of > bytes\n\
         deadwood count $: must be < to >\n\
         byte offset of the deadwood $: its # records must start at byte < or later and end inside the file of > bytes\n\
+        seam count $: must be >, the course count\n\
+        byte offset of the seams $: its # records must start at byte < or later and end inside the file of > bytes\n\
         course #, first circumference $ (~ mm): must be < to >\n\
         course #, second circumference $ (~ mm): must be < to >\n\
         course #, length $ (~ mm): must be < to >\n\
@@ -47,9 +49,16 @@ pub fn put_words(out: &mut [u8], at: usize, fault: Fault) -> usize
         deadwood item #, low height $ (~ mm): must be below its high height\n\
         deadwood item #, high height $ (~ mm): must be above its low height and at most DH >\n\
         deadwood item #, volume $ (~ L): must be < to >\n\
+        seams of course #, number $: must be < to >\n\
+        seams of course #, thickness $ (~ mm): must be < to >\n\
+        seams of course #, width $ (~ mm): must be < to >\n\
         file of $ bytes: must have < to >\n\
         file of more than > bytes: must have < to >\n\
         byte offset of the deadwood $: its # records must not overlap the courses\n\
+        byte offset of the seams $: its # records must not overlap the courses\n\
+        byte offset of the seams $: its # records must not overlap the deadwood\n\
+        course #, first circumference less the tape rise over its seams $ (~ mm): must be < to >\n\
+        course #, second circumference less the tape rise over its seams $ (~ mm): must be < to >\n\
         sum of the course lengths $ (~ mm): must be < to >, the shell length L1 give or take 100 for each course\n\
         shell diameter D1 $ (~ mm): must be < to > and at most 10000 from DH #\n\
         head diameter D2 $ (~ mm): must be < to > and at most 10000 from DH #\n\

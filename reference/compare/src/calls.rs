@@ -24,6 +24,21 @@ pub struct LookupAnswer {
     pub figure: u32,
 }
 
+/// The bytes of the largest file that the converter writes: a header of 56, 40
+/// courses of 16, 64 deadwood items of 12, and seams of 12 for each course.
+pub const MOST_BYTES: usize = 56 + 40 * 16 + 64 * 12 + 40 * 12;
+
+/// A converted file and its length, or the refusal's number and place with a
+/// length of 0. Bytes behind the length are 0.
+#[repr(C)]
+#[derive(Clone, Copy, Debug, PartialEq, Eq)]
+pub struct ConvertedAnswer {
+    pub refusal: u32,
+    pub place: u32,
+    pub length: u32,
+    pub file: [u8; MOST_BYTES],
+}
+
 #[link(name = "capi", kind = "static")]
 extern "C" {
     fn milechime_table(
@@ -48,6 +63,8 @@ extern "C" {
         table_length: usize,
         volume: u32,
     ) -> LookupAnswer;
+
+    fn milechime_convert_48(survey: *const u8, survey_length: usize) -> ConvertedAnswer;
 }
 
 /// Makes the table of a survey.
@@ -74,4 +91,10 @@ pub fn litres(dh: u32, step: u32, table: &[u32], height: u32) -> LookupAnswer {
 pub fn height(dh: u32, step: u32, table: &[u32], volume: u32) -> LookupAnswer {
     // SAFETY: pointer and length are those of a slice.
     unsafe { milechime_height(dh, step, table.as_ptr(), table.len(), volume) }
+}
+
+/// Converts a survey with a header of 48 bytes.
+pub fn convert_48(survey: &[u8]) -> ConvertedAnswer {
+    // SAFETY: pointer and length are those of a slice.
+    unsafe { milechime_convert_48(survey.as_ptr(), survey.len()) }
 }

@@ -1,15 +1,18 @@
 //! What `tanktable` and `tanklookup` print, byte by byte: standard output and
 //! standard error.
 
+use crate::run::Runs;
 use crate::seen::{Seen, Sentences};
 use crate::surveys::keep;
 use reference::generate::case;
-use reference::printed::{Asked, Opened, Printed};
+use reference::printed::{Asked, Opened};
 use reference::random::Random;
 use reference::text::two_decimals;
-use std::io::{ErrorKind, Write};
 use std::path::Path;
-use std::process::{Command, Stdio};
+
+/// How many sentences there are: two for refusal 1, three for 2, six for 3,
+/// eighteen for 5, two for 7, one for each of 4, 6, 9, 12, 13 and 14.
+const SENTENCES: usize = 37;
 
 /// The programs that are compared with the reference.
 pub struct Programs<'a> {
@@ -20,19 +23,13 @@ pub struct Programs<'a> {
 /// What was compared so far.
 pub struct Comparison<'a> {
     programs: Programs<'a>,
-    /// For the survey that is given by `-f`, and those that differ.
-    folder: &'a Path,
+    runs: Runs<'a>,
     /// Surveys by their refusal.
     surveys: Seen,
     /// Answers of lookups in accepted surveys, by their refusal.
     lookups: Seen,
     sentences: Sentences,
-    runs: u64,
-    mismatches: u64,
 }
-
-/// The name of the file in which a survey is given to a program.
-const GIVEN: &str = "given.survey";
 
 impl Comparison<'_> {
     /// Refusal 8 is not among those that can occur: the programs have room
@@ -40,12 +37,10 @@ impl Comparison<'_> {
     pub fn new<'a>(programs: Programs<'a>, folder: &'a Path) -> Comparison<'a> {
         Comparison {
             programs,
-            folder,
+            runs: Runs::new(folder),
             surveys: Seen::new([1, 2, 3, 4, 5, 6, 7, 9, 14]),
             lookups: Seen::new([12, 13]),
-            sentences: Sentences::default(),
-            runs: 0,
-            mismatches: 0,
+            sentences: Sentences::new(SENTENCES),
         }
     }
 
@@ -63,37 +58,37 @@ impl Comparison<'_> {
                     continue;
                 }
             }
-            let before = self.mismatches;
+            let before = self.runs.mismatches();
             self.survey(&survey, &opened, &mut Random::for_case(seed, number));
-            if self.mismatches > before {
+            if self.runs.mismatches() > before {
                 println!("  of the survey with seed {seed}, number {number}");
-                keep(self.folder, &format!("printed-{seed}-{number}"), &survey);
+                let name = format!("printed-{seed}-{number}");
+                keep(self.runs.folder, &name, &survey);
             }
         }
-        std::fs::remove_file(self.folder.join(GIVEN)).expect("the given survey can be removed");
-        // A folder that holds surveys on which the two differ stays.
-        let _ = std::fs::remove_dir(self.folder);
-        self.mismatches
+        self.runs.end();
+        self.runs.mismatches()
     }
 
     /// Prints what was seen, and says whether it was often enough.
     pub fn print(&self) -> bool {
         let surveys = self.surveys.print("printed surveys");
         let lookups = self.lookups.print("printed lookups in accepted surveys");
-        let sentences = self.sentences.print();
-        println!("runs of the programs: {}", self.runs);
+        let sentences = self.sentences.print("sentences for refusals");
+        println!("runs of the programs: {}", self.runs.count());
         surveys && lookups && sentences
     }
 
     /// The table and the lookups of one survey. A refused survey's sentence is
     /// the same in all of them, and counted once.
     fn survey(&mut self, survey: &[u8], opened: &Opened, random: &mut Random) {
-        keep(self.folder, GIVEN, survey);
+        self.runs.give(survey);
         let refusal = opened.refusal().map_or(0, |refusal| refusal.number);
         let table = opened.table();
         self.surveys.add(refusal);
         self.sentences.add(&table.error);
-        self.run(self.programs.table, &[], survey, random, table);
+        self.runs
+            .run(self.programs.table, &[], survey, random, table);
         for asked in questions(opened, random) {
             let lookup = opened.lookup(&asked);
             if opened.accepted().is_some() {
@@ -103,33 +98,8 @@ impl Comparison<'_> {
                 }
             }
             let words = words(&asked, random);
-            self.run(self.programs.lookup, &words, survey, random, lookup);
-        }
-    }
-
-    /// One run, with the survey in a file or on standard input.
-    fn run(
-        &mut self,
-        program: &Path,
-        words: &[String],
-        survey: &[u8],
-        random: &mut Random,
-        reference: Printed,
-    ) {
-        let mut command = Command::new(program);
-        let input = if random.one_in(2) {
-            command.arg("-f").arg(self.folder.join(GIVEN));
-            &[]
-        } else {
-            survey
-        };
-        let ours = printed(command.args(words), input);
-        self.runs += 1;
-        if ours != reference {
-            self.mismatches += 1;
-            println!("MISMATCH: printed by {command:?}");
-            report("output", &ours.output, &reference.output);
-            report("error", &ours.error, &reference.error);
+            self.runs
+                .run(self.programs.lookup, &words, survey, random, lookup);
         }
     }
 }
@@ -199,50 +169,4 @@ fn refusal_of(line: &str) -> u32 {
         .strip_prefix("refused ")
         .and_then(|rest| rest.split(' ').next());
     number.map_or(0, |number| number.parse().expect("a refusal has a number"))
-}
-
-/// What a program writes, given this on its standard input.
-fn printed(command: &mut Command, input: &[u8]) -> Printed {
-    let mut running = command
-        .stdin(Stdio::piped())
-        .stdout(Stdio::piped())
-        .stderr(Stdio::piped())
-        .spawn()
-        .expect("the program can be started");
-    let mut pipe = running.stdin.take().expect("its input is piped");
-    if let Err(error) = pipe.write_all(input) {
-        // A survey that is too long is not read to its end.
-        assert_eq!(error.kind(), ErrorKind::BrokenPipe, "{error}");
-    }
-    drop(pipe);
-    let output = running.wait_with_output().expect("the program ends");
-    assert!(
-        output.status.success(),
-        "the program fails: {}",
-        output.status
-    );
-    Printed {
-        output: text(output.stdout),
-        error: text(output.stderr),
-    }
-}
-
-fn text(bytes: Vec<u8>) -> String {
-    String::from_utf8_lossy(&bytes).into_owned()
-}
-
-/// Prints the first line at which two texts differ, if they do.
-fn report(stream: &str, ours: &str, reference: &str) {
-    if ours == reference {
-        return;
-    }
-    let mut our_lines = ours.split('\n');
-    let mut their_lines = reference.split('\n');
-    for line in 1.. {
-        let (our, their) = (our_lines.next(), their_lines.next());
-        if our != their || our.is_none() {
-            println!("  standard {stream}, line {line}: ours {our:?}, reference {their:?}");
-            return;
-        }
-    }
 }

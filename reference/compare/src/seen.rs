@@ -1,8 +1,12 @@
 //! How often each refusal, each miss of the course lengths, each edge of
-//! spherical caps and each of the sentences was seen.
+//! spherical caps, of seams and of conversions, and each of the sentences was
+//! seen.
 
 use reference::caps::Cap;
+use reference::conversions::Conversion;
 use reference::misses::Miss;
+use reference::rises::Rise;
+use reference::Refusal;
 use std::collections::BTreeMap;
 
 /// Refusal 10 cannot come out of a survey: row 0 is never below zero, and a
@@ -93,6 +97,48 @@ impl Caps {
     }
 }
 
+/// Surveys by what they try of the rise over seams.
+#[derive(Default)]
+pub struct Rises {
+    counts: BTreeMap<Rise, u64>,
+}
+
+impl Rises {
+    /// Counts a survey that met this refusal, or none.
+    pub fn add(&mut self, survey: &[u8], refusal: Option<Refusal>) {
+        for rise in Rise::of_survey(survey, refusal) {
+            *self.counts.entry(rise).or_default() += 1;
+        }
+    }
+
+    /// Prints the counts, and says whether each was seen often enough.
+    pub fn print(&self) -> bool {
+        println!("surveys by their seams");
+        print_all(Rise::ALL, Rise::name, &self.counts)
+    }
+}
+
+/// Old surveys by what they try of the converter.
+#[derive(Default)]
+pub struct Conversions {
+    counts: BTreeMap<Conversion, u64>,
+}
+
+impl Conversions {
+    /// Counts an old survey that met this refusal, or 0.
+    pub fn add(&mut self, survey: &[u8], refusal: u32) {
+        for conversion in Conversion::of_survey(survey, refusal) {
+            *self.counts.entry(conversion).or_default() += 1;
+        }
+    }
+
+    /// Prints the counts, and says whether each was seen often enough.
+    pub fn print(&self) -> bool {
+        println!("old surveys by what is converted");
+        print_all(Conversion::ALL, Conversion::name, &self.counts)
+    }
+}
+
 /// Prints how often each of these was seen, on one line, and says whether that
 /// was often enough.
 fn print_all<T: Copy + Ord, const N: usize>(
@@ -109,17 +155,22 @@ fn print_all<T: Copy + Ord, const N: usize>(
     counts.iter().all(|&(_, count)| count >= ENOUGH)
 }
 
-/// How many sentences there are: two for refusal 1, two for 2, three for 3,
-/// thirteen for 5, two for 7, one for each of 4, 6, 9, 12, 13 and 14.
-const SENTENCES: usize = 28;
-
 /// The sentences on standard error, each with its numbers left out.
-#[derive(Default)]
 pub struct Sentences {
     counts: BTreeMap<String, u64>,
+    /// How many there are.
+    all: usize,
 }
 
 impl Sentences {
+    /// None yet of so many.
+    pub fn new(all: usize) -> Sentences {
+        Sentences {
+            counts: BTreeMap::new(),
+            all,
+        }
+    }
+
     /// Counts every line of a standard error.
     pub fn add(&mut self, error: &str) {
         for line in error.lines() {
@@ -129,13 +180,13 @@ impl Sentences {
 
     /// Prints how many there are and the one seen least, and says whether all
     /// were seen often enough.
-    pub fn print(&self) -> bool {
+    pub fn print(&self, what: &str) -> bool {
         let seen = self.counts.len();
-        println!("sentences for refusals: {seen} of {SENTENCES} seen");
+        println!("{what}: {seen} of {} seen", self.all);
         if let Some((sentence, &least)) = self.counts.iter().min_by_key(|(_, &count)| count) {
             let too_few = if least < ENOUGH { ", TOO FEW" } else { "" };
             println!("  least often, {least} times{too_few}: {sentence}");
-            seen == SENTENCES && least >= ENOUGH
+            seen == self.all && least >= ENOUGH
         } else {
             false
         }

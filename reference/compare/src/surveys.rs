@@ -1,9 +1,9 @@
 //! Surveys: the whole answer, and every lent cell.
 
-use crate::seen::{Caps, Misses, Seen};
+use crate::seen::{Caps, Misses, Rises, Seen};
 use compare::calls::{self, TableAnswer};
-use reference::fill_table;
 use reference::generate::{case, Case};
+use reference::{fill_table, Refusal};
 use std::path::Path;
 
 /// Cells before and behind the lent table, which no call may touch.
@@ -22,6 +22,7 @@ pub struct Tried {
     refusals: Seen,
     misses: Misses,
     caps: Caps,
+    rises: Rises,
 }
 
 impl Tried {
@@ -31,13 +32,20 @@ impl Tried {
             refusals: Seen::new((1..=10).chain([14])),
             misses: Misses::default(),
             caps: Caps::default(),
+            rises: Rises::default(),
         }
     }
 
-    fn add(&mut self, survey: &[u8], refusal: u32) {
-        self.refusals.add(refusal);
+    fn add(&mut self, survey: &[u8], answer: TableAnswer) {
+        let refusal = Refusal {
+            number: answer.refusal,
+            place: answer.place,
+        };
+        self.refusals.add(refusal.number);
         self.misses.add(survey);
-        self.caps.add(survey, refusal);
+        self.caps.add(survey, refusal.number);
+        let refusal = Some(refusal).filter(|refusal| refusal.number != 0);
+        self.rises.add(survey, refusal);
     }
 
     /// Prints all of it, and says whether it was often enough.
@@ -45,7 +53,8 @@ impl Tried {
         let refusals = self.refusals.print("surveys");
         let misses = self.misses.print();
         let caps = self.caps.print();
-        refusals && misses && caps
+        let rises = self.rises.print();
+        refusals && misses && caps && rises
     }
 }
 
@@ -56,7 +65,7 @@ pub fn compare(seed: u64, cases: u64, folder: &Path, tried: &mut Tried) -> u64 {
         let case = case(seed, number);
         let ours = outcome(&case, calls::table);
         let reference = outcome(&case, by_reference);
-        tried.add(&case.survey, reference.answer.refusal);
+        tried.add(&case.survey, reference.answer);
         if ours != reference {
             mismatches += 1;
             report(seed, number, &ours, &reference);
@@ -73,13 +82,15 @@ pub fn keep(folder: &Path, name: &str, survey: &[u8]) {
 }
 
 fn outcome(case: &Case, make: impl Fn(&[u8], &mut [u32]) -> TableAnswer) -> Outcome {
-    // No two cells alike, so that a cell copied to another is seen.
-    let mut memory: Vec<u32> = (0..case.table_len + 2 * AROUND)
-        .map(|index| 0xa500_0000 + index as u32)
-        .collect();
+    let mut memory = cells(case.table_len + 2 * AROUND);
     let lent = &mut memory[AROUND..AROUND + case.table_len];
     let answer = make(&case.survey, lent);
     Outcome { answer, memory }
+}
+
+/// So many cells, no two alike, so that a cell copied to another is seen.
+pub fn cells(count: usize) -> Vec<u32> {
+    (0..count).map(|index| 0xa500_0000 + index as u32).collect()
 }
 
 fn by_reference(survey: &[u8], table: &mut [u32]) -> TableAnswer {

@@ -1,18 +1,32 @@
 //! The safe wrapper on the smallest and largest of what it takes, and on the
 //! paper's example.
 
-use compare::calls::{height, litres, table, LookupAnswer, TableAnswer};
+use compare::calls::{
+    convert_48, height, litres, table, ConvertedAnswer, LookupAnswer, TableAnswer, MOST_BYTES,
+};
 
 const DH: u32 = 50_000;
 const STEP: u32 = 10_000;
 const ROWS: [u32; 6] = [0, 2796, 7334, 12301, 16839, 19635];
 
-/// The paper's survey: flat heads, one course.
-fn paper() -> Vec<u8> {
-    let numbers: [u32; 16] = [
-        0, DH, 100_000, 160_221, 160_221, 0, 0, STEP, 1, 48, 0, 0, 160_221, 160_221, 100_000, 500,
-    ];
+/// The header's numbers before its counts and offsets, and the course, of the
+/// paper's survey: flat heads, one course.
+const HEADER: [u32; 8] = [0, DH, 100_000, 160_221, 160_221, 0, 0, STEP];
+const COURSE: [u32; 4] = [160_221, 160_221, 100_000, 500];
+
+fn bytes(parts: &[&[u32]]) -> Vec<u8> {
+    let numbers = parts.concat();
     numbers.iter().flat_map(|n| n.to_le_bytes()).collect()
+}
+
+/// The paper's survey, with no seams on its course.
+fn paper() -> Vec<u8> {
+    bytes(&[&HEADER, &[1, 56, 0, 0, 1, 72], &COURSE, &[0, 0, 0]])
+}
+
+/// The same with a header of 48 bytes.
+fn old_paper() -> Vec<u8> {
+    bytes(&[&HEADER, &[1, 48, 0, 0], &COURSE])
 }
 
 /// A refusal of a survey, every other number 0.
@@ -75,4 +89,49 @@ fn the_papers_lookups() {
     assert_eq!(height(DH, STEP, &ROWS, 1_398), answer(0, 4_999));
     assert_eq!(litres(DH, STEP, &ROWS, DH + 1), answer(12, 0));
     assert_eq!(height(DH, STEP, &ROWS, 19_636), answer(13, 0));
+}
+
+/// A refusal of an old survey, every other number and byte 0.
+fn not_converted(refusal: u32, place: u32) -> ConvertedAnswer {
+    ConvertedAnswer {
+        refusal,
+        place,
+        length: 0,
+        file: [0; MOST_BYTES],
+    }
+}
+
+#[test]
+fn the_papers_old_survey_and_zeros_behind_it() {
+    let made = convert_48(&old_paper());
+    assert_eq!((made.refusal, made.place, made.length), (0, 0, 84));
+    assert_eq!(made.file[..84], paper());
+    assert_eq!(made.file[84..], [0; MOST_BYTES - 84]);
+    let mut cells = [7; 8];
+    assert_eq!(table(&made.file[..84], &mut cells).rows, 6);
+    assert_eq!(cells[..6], ROWS);
+}
+
+#[test]
+fn old_surveys_that_are_refused() {
+    assert_eq!(convert_48(&[]), not_converted(1, 0));
+    assert_eq!(convert_48(&old_paper()[..47]), not_converted(1, 0));
+    assert_eq!(convert_48(&old_paper()[..48]), not_converted(3, 0));
+    assert_eq!(convert_48(&[0; 70_000]), not_converted(1, 0));
+    let mut low = old_paper();
+    low[4..8].copy_from_slice(&49_999u32.to_le_bytes());
+    assert_eq!(convert_48(&low), not_converted(5, 4));
+}
+
+/// 40 courses and 64 deadwood items fill the answer to its last byte.
+#[test]
+fn the_largest_old_survey() {
+    let course = [160_221, 160_221, 2_500, 500];
+    let counts = [40, 48, 64, 48 + 40 * 16];
+    let old = bytes(&[&HEADER, &counts, &course.repeat(40), &[0, DH, 1].repeat(64)]);
+    let made = convert_48(&old);
+    assert_eq!((made.refusal, made.place), (0, 0));
+    assert_eq!(made.length as usize, MOST_BYTES);
+    assert_eq!(made.file[56..56 + old.len() - 48], old[48..]);
+    assert_eq!(made.file[MOST_BYTES - 480..], [0; 480]);
 }

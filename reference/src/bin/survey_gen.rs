@@ -1,10 +1,12 @@
 //! Writes generated cases and counts their refusals.
 
 use reference::caps::Cap;
+use reference::conversions::Conversion;
 use reference::generate::lookups::{lookup_case, Asked};
-use reference::generate::{case, Case};
+use reference::generate::{case, old_case, Case};
 use reference::misses::Miss;
-use reference::{make_table, Refusal};
+use reference::rises::Rise;
+use reference::{convert, make_table, Refusal};
 use std::io::Write;
 
 const USAGE: &str = "usage:
@@ -14,6 +16,10 @@ const USAGE: &str = "usage:
   survey_gen count SEED N          how often each refusal comes in the first N cases
   survey_gen misses SEED N         how often their course lengths miss L1, and by how much
   survey_gen caps SEED N           how often they have spherical caps, and of what kind
+  survey_gen rises SEED N          how often they try an edge of the rise over seams
+  survey_gen old SEED K            the bytes of old survey K, for the converter
+  survey_gen old-count SEED N      how often each refusal comes in the first N old surveys
+  survey_gen conversions SEED N    how often they try an edge of the converter
   survey_gen lookup SEED K         lookup case K: DH STEP litres|height ASKED, then the rows
   survey_gen lookup-answer SEED K  the answer to lookup case K, in whole u or v
   survey_gen lookup-count SEED N   how often each refusal comes in the first N lookup cases";
@@ -30,9 +36,7 @@ fn main() {
         std::process::exit(2);
     };
     match what.as_str() {
-        "survey" => std::io::stdout()
-            .write_all(&case(seed, number).survey)
-            .expect("standard output can be written"),
+        "survey" => write(&case(seed, number).survey),
         "table" => println!("{}", case(seed, number).table_len),
         "answer" => println!("{}", answer(&case(seed, number))),
         "count" => count(number, |k| refusal(&case(seed, k))),
@@ -43,6 +47,16 @@ fn main() {
             let case = case(seed, k);
             Cap::of_survey(&case.survey, number_of(refusal(&case)))
         }),
+        "rises" => count_all(&Rise::ALL, Rise::name, number, |k| {
+            let case = case(seed, k);
+            Rise::of_survey(&case.survey, refusal(&case))
+        }),
+        "old" => write(&old_case(seed, number)),
+        "old-count" => count(number, |k| convert(&old_case(seed, k)).err()),
+        "conversions" => count_all(&Conversion::ALL, Conversion::name, number, |k| {
+            let old = old_case(seed, k);
+            Conversion::of_survey(&old, number_of(convert(&old).err()))
+        }),
         "lookup" => println!("{}", lookup(seed, number)),
         "lookup-answer" => println!("{}", lookup_answer(seed, number)),
         "lookup-count" => count(number, |k| lookup_case(seed, k).answer().err()),
@@ -51,6 +65,12 @@ fn main() {
             std::process::exit(2);
         }
     }
+}
+
+fn write(survey: &[u8]) {
+    std::io::stdout()
+        .write_all(survey)
+        .expect("standard output can be written");
 }
 
 fn refusal(case: &Case) -> Option<Refusal> {

@@ -4,6 +4,7 @@
 use super::plan::Plan;
 use super::{diameters, sound};
 use crate::dimensions::{end_outer_diameter, longest_cap, wall};
+use crate::format::Format;
 use crate::limits::{L3_CURVED, SPHERICAL_CAP};
 use crate::random::Random;
 
@@ -41,17 +42,17 @@ fn longest(random: &mut Random, d2: u32) -> u32 {
 
 /// Refusal 14 and its edges. One in four has a diameter at its limits too, for
 /// the order of refusals 7 and 14.
-pub fn at_longest(random: &mut Random) -> Plan {
+pub fn at_longest(random: &mut Random, format: Format) -> Plan {
     let mut plan = if random.one_in(4) {
-        diameters::at_limits(random)
+        diameters::at_limits(random, format)
     } else {
-        sound::sound(random)
+        sound::sound(random, format)
     };
-    let d2 = end_outer_diameter(plan.left, plan.right) - wall(&plan.courses);
+    let d2 = end_outer_diameter(plan.survey.left, plan.survey.right) - wall(&plan.survey.courses);
     let d2 = u32::try_from(d2).expect("planned diameters are near their limits");
     let one_past = longest_cap(d2) + 1;
-    plan.kind = SPHERICAL_CAP;
-    plan.l3 = match random.between(1, 8) {
+    plan.survey.kind = SPHERICAL_CAP;
+    plan.survey.l3 = match random.between(1, 8) {
         1 => longest(random, d2),
         2..=5 => one_past,
         6..=7 => random.between(one_past, L3_CURVED.high),

@@ -2,7 +2,8 @@
 //! their limits and just past them.
 
 use super::plan::Plan;
-use super::sound;
+use super::{seams, sound};
+use crate::format::Format;
 use crate::limits::{CIRCUMFERENCE, DIAMETER};
 use crate::numbers::nearest;
 use crate::random::Random;
@@ -15,7 +16,8 @@ pub fn pair_of_outer(random: &mut Random, outer: u32) -> (u32, u32) {
     split(random, sum)
 }
 
-/// Gives the courses circumferences for the outer diameter. Mostly each course
+/// Gives the courses circumferences for the outer diameter, as they are without
+/// seams. Mostly each course
 /// has exactly that diameter; else they differ and only their mean is near it.
 /// The mean goes by the sum of the lengths, so that courses alike in diameter
 /// give that diameter whether or not their lengths add up to L1.
@@ -60,7 +62,7 @@ fn split(random: &mut Random, sum: u32) -> (u32, u32) {
 
 /// One diameter at a limit or one past it, the other sound: the limits of a
 /// diameter itself, or 10,000 from DH on either side.
-pub fn at_limits(random: &mut Random) -> Plan {
+pub fn at_limits(random: &mut Random, format: Format) -> Plan {
     let low = DIAMETER.low;
     let high = DIAMETER.high;
     let (dh, diameter) = match random.between(1, 20) {
@@ -76,9 +78,9 @@ pub fn at_limits(random: &mut Random) -> Plan {
     };
     let other = dh;
     if random.one_in(2) {
-        exact(random, dh, diameter, other)
+        exact(random, format, dh, [diameter, other])
     } else {
-        exact(random, dh, other, diameter)
+        exact(random, format, dh, [other, diameter])
     }
 }
 
@@ -90,18 +92,19 @@ fn from_dh(random: &mut Random, difference: i32) -> (u32, u32) {
 
 /// A survey with exactly these diameters: every course alike and walls thin
 /// enough for the largest circumference.
-fn exact(random: &mut Random, dh: u32, d1: u32, d2: u32) -> Plan {
-    let mut plan = sound::with_diameters(random, dh, d1, d2);
+fn exact(random: &mut Random, format: Format, dh: u32, [d1, d2]: [u32; 2]) -> Plan {
+    let mut plan = sound::with_diameters(random, format, dh, d1, d2);
     let thickness = random.between(100, 4_000);
     let (left, right) = pair_of_outer(random, d2 + 2 * thickness);
-    plan.left = left;
-    plan.right = right;
+    plan.survey.left = left;
+    plan.survey.right = right;
     let sum = sum_of_outer(random, d1 + 2 * thickness);
-    for course in &mut plan.courses {
+    for course in &mut plan.survey.courses {
         let (first, second) = split(random, sum);
         course.first = first;
         course.second = second;
         course.thickness = thickness;
     }
+    seams::onto_readings(&mut plan.survey.courses, &mut plan.survey.seams, dh);
     plan
 }

@@ -5,6 +5,7 @@ use super::plan::Plan;
 use super::sound;
 use crate::deadwood::Deadwood;
 use crate::dimensions::dimensions;
+use crate::format::Format;
 use crate::gross::Tank;
 use crate::limits::DEADWOOD_VOLUME;
 use crate::random::Random;
@@ -13,9 +14,9 @@ use crate::survey::parse;
 
 /// A survey whose deadwood takes, between one row and the next, as much as the
 /// gross grows there, one more, one less, or far more; at one or two places.
-pub fn falling(random: &mut Random) -> Plan {
-    let mut plan = sound::sound(random);
-    plan.deadwood.clear();
+pub fn falling(random: &mut Random, format: Format) -> Plan {
+    let mut plan = sound::sound(random, format);
+    plan.survey.deadwood.clear();
     let grown = growth(&plan);
     let mut items = Vec::new();
     if let Some(grown) = grown {
@@ -23,17 +24,17 @@ pub fn falling(random: &mut Random) -> Plan {
             items.push(item(random, &plan, &grown));
         }
     }
-    plan.deadwood = items;
+    plan.survey.deadwood = items;
     plan.layout = sound::layout(random, &plan);
     plan
 }
 
 /// How much the gross grows from each row to the next, if the plan is sound.
 fn growth(plan: &Plan) -> Option<Vec<u64>> {
-    let survey = parse(&plan.encode()).ok()?;
+    let survey = parse(&plan.encode(), plan.format).ok()?;
     let dimensions = dimensions(&survey).ok()?;
     let tank = Tank::new(&survey, dimensions);
-    let gross: Vec<u64> = row_heights(plan.dh, plan.step)
+    let gross: Vec<u64> = row_heights(plan.survey.dh, plan.survey.step)
         .into_iter()
         .map(|height| tank.gross(height))
         .collect();
@@ -48,7 +49,7 @@ fn item(random: &mut Random, plan: &Plan, grown: &[u64]) -> Deadwood {
         2 => last,
         _ => random.index(0, last),
     };
-    let heights = row_heights(plan.dh, plan.step);
+    let heights = row_heights(plan.survey.dh, plan.survey.step);
     let volume = grown[index] as i64 + random.pick(&[-1, 0, 0, 1, 1, 1, 5_000]);
     Deadwood {
         low: heights[index],

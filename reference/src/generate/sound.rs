@@ -2,44 +2,89 @@
 //! diameter and a wide step, so that their tables are quickly made.
 
 use super::diameters::{courses_of_outer, pair_of_outer};
-use super::plan::{Layout, Plan};
-use super::{caps, lengths};
+use super::plan::{Layout, Part, Plan};
+use super::{caps, lengths, seams};
 use crate::deadwood::Deadwood;
 use crate::dimensions::wall;
+use crate::format::Format;
 use crate::heights::DipHeight;
 use crate::limits::{self, LARGEST_FILE};
 use crate::random::Random;
-use crate::survey::Course;
+use crate::rise::Seams;
+use crate::survey::{Course, Survey};
 
 /// A survey that keeps every limit. Now and then the deadwood or the rounding
 /// of many courses still leads to refusal 7 or 9.
-pub fn sound(random: &mut Random) -> Plan {
+pub fn sound(random: &mut Random, format: Format) -> Plan {
     let dh = dip_diameter(random);
     let d1 = near_diameter(random, dh);
     let d2 = near_diameter(random, dh);
-    let mut plan = with_diameters(random, dh, d1, d2);
-    plan.deadwood = gentle_deadwood(random, &plan);
+    let mut plan = with_diameters(random, format, dh, d1, d2);
+    let count = deadwood_count(random);
+    plan.survey.deadwood = gentle_deadwood(random, &plan, count);
     plan.layout = layout(random, &plan);
     plan
 }
 
 /// A sound survey but for deadwood of any size anywhere.
-pub fn wild_deadwood(random: &mut Random) -> Plan {
-    let mut plan = sound(random);
+pub fn wild_deadwood(random: &mut Random, format: Format) -> Plan {
+    let mut plan = sound(random, format);
     let count = deadwood_count(random);
-    plan.deadwood = (0..count).map(|_| wild_item(random, plan.dh)).collect();
+    plan.survey.deadwood = (0..count)
+        .map(|_| wild_item(random, plan.survey.dh))
+        .collect();
+    plan.layout = layout(random, &plan);
+    plan
+}
+
+/// A sound survey with as many records in each section as there may be.
+pub fn most_records(random: &mut Random, format: Format) -> Plan {
+    let dh = random.between(limits::DH.low, 60_000);
+    let most = limits::COURSE_COUNT.high;
+    let seams = |random: &mut Random, courses| seams::sound(random, format, courses);
+    let mut plan = planned(random, format, dh, [dh; 2], most, seams);
+    let count = limits::DEADWOOD_COUNT.high as usize;
+    plan.survey.deadwood = gentle_deadwood(random, &plan, count);
     plan.layout = layout(random, &plan);
     plan
 }
 
 /// A survey without deadwood with the wished diameters, as near as the
 /// circumferences' limits allow.
-pub fn with_diameters(random: &mut Random, dh: u32, d1: u32, d2: u32) -> Plan {
+pub fn with_diameters(random: &mut Random, format: Format, dh: u32, d1: u32, d2: u32) -> Plan {
+    let count = course_count(random);
+    let seams = |random: &mut Random, courses| seams::sound(random, format, courses);
+    planned(random, format, dh, [d1, d2], count, seams)
+}
+
+/// The same in today's format with these seams, for a number of courses.
+pub fn with_seams(
+    random: &mut Random,
+    dh: u32,
+    d1: u32,
+    d2: u32,
+    seams: impl Fn(usize) -> Vec<Seams>,
+) -> Plan {
+    let count = course_count(random);
+    let seams = |_: &mut Random, courses| seams(courses);
+    planned(random, Format::TODAY, dh, [d1, d2], count, seams)
+}
+
+fn planned(
+    random: &mut Random,
+    format: Format,
+    dh: u32,
+    [d1, d2]: [u32; 2],
+    course_count: u32,
+    seams: impl Fn(&mut Random, usize) -> Vec<Seams>,
+) -> Plan {
     let kind = random.between(limits::HEAD_KIND.low, limits::HEAD_KIND.high);
     let l1 = l1(random);
-    let mut courses = bare_courses(random, l1);
+    let mut courses = bare_courses(random, l1, course_count);
     let wall = wall(&courses) as u32;
     courses_of_outer(random, &mut courses, d1 + wall);
+    let mut seams = seams(random, courses.len());
+    seams::onto_readings(&mut courses, &mut seams, dh);
     let (left, right) = pair_of_outer(random, d2 + wall);
     let l3 = if kind == limits::SPHERICAL_CAP {
         caps::sound_length(random, d2)
@@ -47,31 +92,28 @@ pub fn with_diameters(random: &mut Random, dh: u32, d1: u32, d2: u32) -> Plan {
         in_limits(random, limits::l3_limits(kind))
     };
     let mut plan = Plan {
-        kind,
-        dh,
-        l1,
-        left,
-        right,
-        l2: in_limits(random, limits::L2),
-        l3,
-        step: step(random),
-        courses,
-        deadwood: Vec::new(),
-        layout: Layout {
-            deadwood_first: false,
-            gap_before: 0,
-            gap_between: 0,
-            gap_after: 0,
-            empty_offset: 0,
-            filler: 0,
+        format,
+        survey: Survey {
+            kind,
+            dh,
+            l1,
+            left,
+            right,
+            l2: in_limits(random, limits::L2),
+            l3,
+            step: step(random),
+            courses,
+            deadwood: Vec::new(),
+            seams,
         },
+        layout: Layout::PLAIN,
     };
     plan.layout = layout(random, &plan);
     plan
 }
 
 /// A number inside limits, often at one of them.
-fn in_limits(random: &mut Random, limits: limits::Limits) -> u32 {
+pub fn in_limits(random: &mut Random, limits: limits::Limits) -> u32 {
     match random.between(1, 6) {
         1 => limits.low,
         2 => limits.high,
@@ -121,14 +163,17 @@ fn step(random: &mut Random) -> u32 {
     }
 }
 
-/// Courses with lengths and thicknesses, and no circumferences yet.
-fn bare_courses(random: &mut Random, l1: u32) -> Vec<Course> {
-    let count = match random.between(1, 10) {
+fn course_count(random: &mut Random) -> u32 {
+    match random.between(1, 10) {
         1..=4 => 1,
         5..=7 => random.between(2, 5),
         8 => limits::COURSE_COUNT.high,
         _ => random.between(1, limits::COURSE_COUNT.high),
-    };
+    }
+}
+
+/// Courses with lengths and thicknesses, and no circumferences yet.
+fn bare_courses(random: &mut Random, l1: u32, count: u32) -> Vec<Course> {
     let thickness = in_limits(random, limits::THICKNESS);
     lengths::near_l1(random, l1, count)
         .into_iter()
@@ -157,11 +202,10 @@ fn deadwood_count(random: &mut Random) -> usize {
 /// Deadwood that hardly ever makes a row fall: what takes room away lies
 /// between an eighth and seven eighths of DH and is small beside the shell
 /// there; what adds room is of any size.
-fn gentle_deadwood(random: &mut Random, plan: &Plan) -> Vec<Deadwood> {
-    let count = deadwood_count(random);
+fn gentle_deadwood(random: &mut Random, plan: &Plan, count: usize) -> Vec<Deadwood> {
     (0..count)
         .map(|_| match random.between(1, 3) {
-            1 => added_room(random, plan.dh),
+            1 => added_room(random, plan.survey.dh),
             _ => small_item(random, plan, count as u64),
         })
         .collect()
@@ -174,10 +218,10 @@ fn added_room(random: &mut Random, dh: u32) -> Deadwood {
 }
 
 fn small_item(random: &mut Random, plan: &Plan, count: u64) -> Deadwood {
-    let low = random.between(plan.dh / 8, plan.dh / 2);
-    let high = random.between(low + plan.dh / 4, plan.dh / 8 * 7);
+    let low = random.between(plan.survey.dh / 8, plan.survey.dh / 2);
+    let high = random.between(low + plan.survey.dh / 4, plan.survey.dh / 8 * 7);
     // Half the diameter times the length is less than the shell's section.
-    let band = u64::from(plan.dh / 2) * u64::from(plan.l1) * u64::from(high - low);
+    let band = u64::from(plan.survey.dh / 2) * u64::from(plan.survey.l1) * u64::from(high - low);
     let most = band / 10_000_000_000 / (2 * count);
     let most = most.clamp(1, limits::DEADWOOD_VOLUME as u64) as u32;
     Deadwood {
@@ -211,15 +255,14 @@ fn wild_item(random: &mut Random, dh: u32) -> Deadwood {
     }
 }
 
-/// Sections in either order, touching or apart, at any offset; files up to the
+/// Sections in any order, touching or apart, at any offset; files up to the
 /// largest.
 pub fn layout(random: &mut Random, plan: &Plan) -> Layout {
     let mut layout = Layout {
-        deadwood_first: random.one_in(2),
-        gap_before: gap(random),
-        gap_between: gap(random),
+        order: order(random),
+        gaps: [gap(random), gap(random), gap(random)],
         gap_after: gap(random),
-        empty_offset: random.pick(&[0, 47, 48, 64, u32::MAX, 0x8000_0000]),
+        empty_offset: random.pick(&[0, 0, 47, 48, 56, 64, u32::MAX, 0x8000_0000]),
         filler: random.any(),
     };
     let planned = Plan {
@@ -229,11 +272,19 @@ pub fn layout(random: &mut Random, plan: &Plan) -> Layout {
     let room = LARGEST_FILE - planned.bytes_without_last_gap();
     match random.between(1, 60) {
         1 => layout.gap_after = room,
-        2 => layout.gap_before += room - layout.gap_after,
-        3 => layout.gap_between += room - layout.gap_after,
+        2 => layout.gaps[0] += room - layout.gap_after,
+        3 => layout.gaps[random.index(1, 2)] += room - layout.gap_after,
         _ => {}
     }
     layout
+}
+
+/// One of the six orders of three sections, the header's as often as any other.
+fn order(random: &mut Random) -> [Part; 3] {
+    let mut order = Part::ALL;
+    order.swap(0, random.index(0, 2));
+    order.swap(1, random.index(1, 2));
+    order
 }
 
 fn gap(random: &mut Random) -> usize {

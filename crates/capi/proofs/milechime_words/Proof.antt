@@ -1,27 +1,10 @@
--- `capi::milechime_words` meets its contract: the words fit, so all of them stand at the front of the text. Assumes nothing.
-use Prim.Native.Nat.{ℕ}
-use mathlib.Core.Path.{_≡_, ap₂}
-use mathlib.Core.List.{List}
-use native.Mathlib.Omega.{arith}
+-- `capi::milechime_words` meets its contract: the words of what the refusal is about. Assumes nothing.
 use borrow.Author.Needs.{needs}
-use lib.ListN.{length, length-replicate}
-use Rattle.survey.specs.Fault.{faultOf}
-use Rattle.wording.specs.Sentences.{faultSize, faultWords}
-use Rattle.capi.specs.declared.numbers.Words.{Words}
 use Rattle.capi.proofs.milechime_words.Statement.{statement}
 use Rattle.capi.proofs.milechime_words.Tie as tie
 
-abbrev words : ℕ → List ℕ → Words
-words n t = record { length = n; text = t }
-
 returns : tie.Need-returns
-returns c =
-    let said = rw (c .before .before .before .fault-of .ensures) at (c .before .put-words .ensures) in
-    let a = c .before .before .before .before .before .args in
-    let all : c .before .put-words .result ≡ length (faultWords (faultOf (a .survey .now) (a .refusal) (a .place))) =
-    omega (arith, said .0 .next-is, said .1, length-replicate {A = ℕ} faultSize 0) in
-    (ap₂ words all (said .0 .memory), omega (arith, said .1))
+returns c = rw (c .before .fault-of .ensures) at (c .in-words .ensures)
 
 pub milechime-words-spec : {M : Type 1} → statement M
-milechime-words-spec =
-    tie.close (tie.spec (λ c κs. search needs) (λ c. search needs) (λ c κs. search needs) (λ c. search needs) returns)
+milechime-words-spec = tie.close (tie.spec (λ c κs. search needs) (λ c κs. search needs) returns)

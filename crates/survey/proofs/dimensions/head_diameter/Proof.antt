@@ -8,7 +8,7 @@ use Rattle.survey.proofs.dimensions.head_diameter.Tie as tie
 
 returns : tie.Need-returns
 unfolding headDiameter
-returns c = c .inside .ensures ∙ ap₂ _-_ (c .before .before .outer-diameter .ensures) (c .before .wall .ensures)
+returns c = c .less .ensures ∙ ap₂ _-_ (c .before .before .outer-diameter .ensures) (c .before .wall .ensures)
 
 pub head-diameter-spec : {M : Type 1} → statement M
 head-diameter-spec =

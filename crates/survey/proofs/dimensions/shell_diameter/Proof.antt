@@ -8,7 +8,7 @@ use Rattle.survey.proofs.dimensions.shell_diameter.Tie as tie
 
 returns : tie.Need-returns
 unfolding shellDiameter
-returns c = c .inside .ensures ∙ ap₂ _-_ (c .before .before .outer-diameter .ensures) (c .before .wall .ensures)
+returns c = c .less .ensures ∙ ap₂ _-_ (c .before .before .outer-diameter .ensures) (c .before .wall .ensures)
 
 pub shell-diameter-spec : {M : Type 1} → statement M
 shell-diameter-spec = tie.close (tie.spec (λ c κs. search needs) (λ c κs. search needs) (λ c κs. search needs) returns)

@@ -3,7 +3,7 @@ use mathlib.Core.Bool.{true}
 use mathlib.Core.Path.{_≡_, sym, _∙_}
 use borrow.Author.Tests.{eq-eqb, ne-eqb, not-true, not-false}
 use Rattle.survey.specs.SectionLaws.{Readable}
-use Rattle.survey.specs.SurveyLaws.{NumbersFit}
+use Rattle.survey.specs.FitLaws.{NumbersFit}
 use Rattle.survey.specs.Fault.{numbersPass, dimensionFault}
 use Rattle.survey.specs.DimensionLaws.{numbers-pass}
 use borrow.Author.Needs.{needs}

@@ -2,7 +2,7 @@
 -- nothing.
 use Prim.Native.Nat.{_+_, _^_, _≤_, _<_}
 use native.Mathlib.Omega.{arith}
-use Rattle.survey.specs.SurveyLaws.{shell-fits}
+use Rattle.survey.specs.FitLaws.{as-they-stand, shell-fits}
 use Rattle.survey.specs.Fault.{lengthsFault}
 use borrow.Author.Needs.{needs}
 use Rattle.survey.proofs.fault.lengths_fault.Statement.{statement}
@@ -12,7 +12,7 @@ use Rattle.survey.proofs.fault.lengths_fault.Tie as tie
 sizes : (c : tie.After-allowance) → (c .allowance .result ≤ c .before .word .result) × (c .before .word .result + c .allowance .result < 2 ^ 32)
 sizes c =
     let start = c .before .before .before .before in
-    let shell = shell-fits (start .args .f) (start .args .s .now) (start .pre .1) in
+    let shell = shell-fits (start .args .f) (start .args .s .now) (as-they-stand _ _ (start .pre .1)) in
     let few = c .before .before .file-sums .ensures .1 .0 .count in
     rw (c .before .word .ensures, c .allowance .ensures) (omega (arith, shell, few), omega (arith, shell, few))
 

@@ -1,49 +1,26 @@
--- `survey::fault::numbers_pass` meets its contract: a test that passes leaves the tests behind it. Assumes nothing.
-use mathlib.Core.Bool.{true}
-use mathlib.Core.Path.{_≡_, sym, _∙_, ap}
+-- `survey::fault::numbers_pass` meets its contract: a file whose numbers are within their limits is left to its corrected readings. Assumes nothing.
+use mathlib.Core.Path.{sym, _∙_, ap}
 use borrow.Author.Tests.{not-true, not-false}
-use lib.ListN.{length}
-use Rattle.refusal.specs.Test.{verdict, within}
-use Rattle.survey.specs.Limits.{largestFile}
-use Rattle.survey.specs.SectionLaws.{placed-file}
-use Rattle.survey.specs.Tests.{layoutTests}
 use Rattle.survey.specs.Fault.{passed, numbersPass}
-use Rattle.survey.specs.DimensionLaws.{passed-verdict}
+use Rattle.survey.specs.DimensionLaws.{limits-pass}
 use borrow.Author.Needs.{needs}
 use Rattle.survey.proofs.fault.numbers_pass.Statement.{statement}
 use Rattle.survey.proofs.fault.numbers_pass.Tie as tie
 
--- the tests, place by place
-
-size : (c : tie.Else1) → let a = c .before .before .before .args in within (a .f .header) (length (a .s .now)) largestFile ≡ true
-size c = sym (c .before .is-within .ensures) ∙ not-false _ (c .if1 .left)
-
-layout : (c : tie.After-passed) → let a = c .before .before .before .before .before .args in c .passed .result ≡ passed (verdict (layoutTests (a .f) (a .s .now)))
-layout c = c .passed .ensures ∙ ap passed (c .before .layout-tested .ensures)
-
 returns : tie.Need-returns
 unfolding numbersPass
-returns c = rw (sym (c .before .is-within .ensures) ∙ not-true _ (c .if1 .taken))
+returns c = rw (sym (c .before .limits-pass .ensures) ∙ not-true _ (c .if1 .taken))
+
+readings-tested-requires : tie.Need-readings-tested-requires
+readings-tested-requires c κs =
+    let start = c .before .before .before in
+    (start .pre .0, limits-pass (start .args .f) (start .args .s .now) (sym (c .before .limits-pass .ensures) ∙ not-false _ (c .if1 .left)) (start .pre .0))
 
 returns-2 : tie.Need-returns-2
 unfolding numbersPass
-returns-2 c = rw (size (c .before .before .before), sym (layout (c .before)) ∙ not-true _ (c .if2 .taken))
-
-numbers-tested-requires : tie.Need-numbers-tested-requires
-numbers-tested-requires c κs =
-    let start = c .before .before .before .before .before .before in
-    let f = start .args .f in
-    let s = start .args .s .now in
-    (start .pre .0, placed-file f s (start .pre .0) (size (c .before .before .before)) (passed-verdict (verdict (layoutTests f s)) (sym (layout (c .before)) ∙ not-false _ (c .if2 .left))))
-
-returns-3 : tie.Need-returns-3
-unfolding numbersPass
-returns-3 c =
-    rw (size (c .before .before .before .before .before), sym (layout (c .before .before .before)) ∙ not-false _ (c .before .before .if2 .left))
-    (c .passed2 .ensures ∙ ap passed (c .before .numbers-tested .ensures))
+returns-2 c = rw (sym (c .before .before .before .limits-pass .ensures) ∙ not-false _ (c .before .before .if1 .left)) (c .passed .ensures ∙ ap passed (c .before .readings-tested .ensures))
 
 pub numbers-pass-spec : {M : Type 1} → statement M
 numbers-pass-spec =
     tie.close
-    (tie.spec (λ c κs. search needs) returns (λ c κs. search needs) (λ c κs. search needs) returns-2
-    numbers-tested-requires (λ c κs. search needs) returns-3)
+    (tie.spec (λ c κs. search needs) returns readings-tested-requires (λ c κs. search needs) returns-2)

@@ -6,10 +6,9 @@ use Rattle.survey.proofs.field.course_fault.Tie as tie
 
 returns : tie.Need-returns
 unfolding courseFault
-returns c = rw (c .fault-with .ensures, c .before .word .ensures, c .before .before .course-limits .ensures)
+returns c = rw (c .word-fault .ensures, c .before .course-limits .ensures)
 
 pub course-fault-spec : {M : Type 1} → statement M
 course-fault-spec =
     tie.close
-    (tie.spec (λ c κs. search needs) (λ c. search needs) (λ c. search needs) (λ c κs. search needs)
-    (λ c. search needs) (λ c κs. search needs) returns)
+    (tie.spec (λ c. search needs) (λ c. search needs) (λ c κs. search needs) (λ c κs. search needs) returns)

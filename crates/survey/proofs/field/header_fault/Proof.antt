@@ -6,10 +6,9 @@ use Rattle.survey.proofs.field.header_fault.Tie as tie
 
 returns : tie.Need-returns
 unfolding headerFault
-returns c = rw (c .fault-with .ensures, c .before .word .ensures, c .before .before .header-item .ensures, c .before .before .before .header-limits .ensures)
+returns c = rw (c .word-fault .ensures, c .before .header-item .ensures, c .before .before .header-limits .ensures)
 
 pub header-fault-spec : {M : Type 1} → statement M
 header-fault-spec =
     tie.close
-    (tie.spec (λ c κs. search needs) (λ c. search needs) (λ c κs. search needs) (λ c κs. search needs)
-    (λ c. search needs) (λ c κs. search needs) returns)
+    (tie.spec (λ c. search needs) (λ c κs. search needs) (λ c κs. search needs) (λ c κs. search needs) returns)

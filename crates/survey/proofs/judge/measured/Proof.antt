@@ -11,7 +11,7 @@ use Rattle.survey.specs.declared.format.Format.{Format}
 use Rattle.survey.specs.Word.{word}
 use Rattle.survey.specs.Layout.{kindAt, dhAt, l1At, l3At}
 use Rattle.survey.specs.Dimensions.{sumsOf, lengthsFit, d1, d2, diametersFit, dimensions, headsTested}
-use Rattle.survey.specs.SurveyLaws.{dh-fits}
+use Rattle.survey.specs.FitLaws.{as-they-stand, dh-fits}
 use Rattle.survey.specs.Tests.{dimensionTests}
 use Rattle.survey.specs.Judged.{judgedBy}
 use borrow.Author.Needs.{needs}
@@ -40,7 +40,7 @@ returns c = rw (sym (lengths (c .before)) ∙ not-true _ (c .if1 .taken))
 diameters-requires : tie.Need-diameters-requires
 diameters-requires c κs =
     let start = c .before .before .before .before .before .before .before .before in
-    let dh = dh-fits (start .args .f) (start .args .s .now) (start .pre .1) in
+    let dh = dh-fits (start .args .f) (start .args .s .now) (as-they-stand _ _ (start .pre .1)) in
     let sums = c .before .before .before .before .before .before .file-sums .ensures .1 in
     rw (c .word4 .ensures) (sums .0, sums .1, sums .2, dh .0, dh .1)
 

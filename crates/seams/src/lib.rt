@@ -1,0 +1,3 @@
+// Weld seams under the tape: by how much they make a circumference come out long.
+pub mod rise;
+pub mod seam;

@@ -1,0 +1,39 @@
+// Whether a file's table can be made by whoever has room for every row. Nothing is written.
+ghost use mathlib.Core.Path.{_≡_};
+ghost use Rattle.refusal.specs.Test.{verdict};
+ghost use Rattle.schedule.specs.Rows.{mostRows};
+ghost use Rattle.survey.specs.SurveyLaws.{SurveyLimits, WithinLimits};
+ghost use Rattle.table.specs.Tests.{tableTests};
+ghost use Rattle.table.specs.Answer.{verdictOn};
+use crate::rows::net_rows;
+use crate::tests::rows_tested;
+use refusal::Verdict;
+use schedule::MOST_ROWS;
+use schedule::row_count;
+use survey::decode::Decoded;
+use survey::decode::Survey;
+
+fn rows_judged(v: Survey) -> Verdict
+    requires { ⌜ SurveyLimits v ⌝ }
+    ensures { λ r. ⌜ r ≡ verdict (tableTests v mostRows) ⌝ }
+{
+    let tank = v.tank;
+    let dh = tank.dh;
+    let rows = row_count(dh.units(), v.step);
+    let mut net = [0i64; MOST_ROWS];
+    net_rows(v, rows, &mut net);
+    rows_tested(&net, rows)
+}
+
+// Refusals 1 to 10 and 14, of which 8 is never given.
+pub fn judged(file: Decoded) -> Verdict
+    requires { ⌜ WithinLimits file ⌝ }
+    ensures { λ r. ⌜ r ≡ verdictOn file mostRows ⌝ }
+{
+    let verdict = file.verdict;
+    let v = file.survey;
+    match verdict {
+        Verdict::Refused(r) => Verdict::Refused(r),
+        Verdict::Passed => rows_judged(v),
+    }
+}
