@@ -6,6 +6,8 @@
  *
  * Units. Lengths are whole numbers of u = 0.01 mm, volumes whole numbers of
  * v = 0.01 L: a dip height of 5000 is 50.00 mm, a volume of 1398 is 13.98 L.
+ * Nearest is the nearest whole number, an exact half to the even one: 2.5 to
+ * 2, and 3.5 to 4.
  *
  * Limits. A survey has at most MILECHIME_LARGEST_SURVEY bytes, a table at most
  * MILECHIME_MOST_ROWS rows.
@@ -109,9 +111,10 @@ struct milechime_litres_answer {
 
 /*
  * The volume at a dip height: at a row's height that row, else the nearest v
- * on the straight line between the rows below and above, halves up, and never
- * outside the two. It never falls with the height. Refused with 12 exactly
- * when 11 does not apply and the height is above DH.
+ * on the straight line between the rows below and above, and never outside the
+ * two. The volume is rounded, not what it has more than the row below: midway
+ * between rows of 1 and 2 it is 2. It never falls with the height. Refused with
+ * 12 exactly when 11 does not apply and the height is above DH.
  */
 struct milechime_litres_answer milechime_litres(
     uint32_t dh, uint32_t step,

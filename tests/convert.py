@@ -6,7 +6,7 @@ and refused, and target/bin/tanktable on what comes out, whole, cut, moved and d
 import struct
 from itertools import permutations
 
-from surveys import CONVERT, ROOT, TABLE, run, run_for_bytes, same, survey, try_all
+from surveys import CONVERT, ROOT, TABLE, nearest, run, run_for_bytes, same, survey, try_all
 
 EXAMPLES = ROOT / "examples"
 OLD = EXAMPLES / "old"
@@ -218,10 +218,14 @@ TERMS = [
     (1, 250, 1_500, 260_000, 3, 20),
     # 2·3·200·1,200/50,000 = 1,440,000/50,000 = 28.8; 8·3·200/3 = 1,600, root(200/50,000) = 0.063246, 1,600·0.063246 = 101.19
     (3, 200, 1_200, 50_000, 29, 101),
-    # 2·1·125·100/50,000 = 25,000/50,000, an exact half, goes up; 8·1·125/3 = 333.33, root(125/50,000) = 0.05, 333.33·0.05 = 16.67
-    (1, 125, 100, 50_000, 1, 16),
-    # the same with one u less of width: 24,750/50,000 = 0.495
-    (1, 125, 99, 50_000, 0, 16),
+    # 2·1·125·100/50,000 = 25,000/50,000, an exact half, goes to 0; 8·1·125/3 = 333.33, root(125/50,000) = 0.05, 333.33·0.05 = 16.67
+    (1, 125, 100, 50_000, 0, 16),
+    # the same with one u more of width: 25,250/50,000 = 0.505
+    (1, 125, 101, 50_000, 1, 16),
+    # 2·1·125·300/50,000 = 75,000/50,000 = 1.5, a half that goes to 2, as does 125,000/50,000 = 2.5; with one u less of width the first is 1.495
+    (1, 125, 300, 50_000, 2, 16),
+    (1, 125, 500, 50_000, 2, 16),
+    (1, 125, 299, 50_000, 1, 16),
     # no width: 0; 8·3·500/3 = 4,000, root(500/50,000) = 0.1, 4,000·0.1 = 400 exactly
     (3, 500, 0, 50_000, 0, 400),
     # one u more of diameter: 400·root(50,000/50,001) = 399.996
@@ -237,8 +241,8 @@ TERMS = [
 
 
 def outer(reading):
-    """The outer diameter of a course whose two circumferences are this one: the nearest of 113·2·reading/710."""
-    return (4 * 113 * reading + 710) // 1_420
+    """The outer diameter of a course whose two circumferences are this one."""
+    return nearest(113 * 2 * reading, 710)
 
 
 def table_of(dh, readings, seams):

@@ -1,7 +1,8 @@
-"""What the tests of the built programs share: a survey's bytes, a run of a program, and the count of the checks."""
+"""What the tests of the built programs share: a survey's bytes, a run of a program, the papers' rounding, and the count of the checks."""
 import struct
 import subprocess
 import sys
+from fractions import Fraction
 from pathlib import Path
 
 ROOT = Path(__file__).resolve().parent.parent
@@ -33,6 +34,27 @@ def run(program, *words, survey=SIX_ROWS):
     """The same of a program that writes text."""
     written, said = run_for_bytes(program, *words, survey=survey)
     return written.decode(), said
+
+
+def printed_rows(said):
+    """The rows that tanktable printed: v by the dip height in u."""
+    return dict((int(figure.replace(".", "")) for figure in line.split()) for line in said.splitlines()[1:])
+
+
+def nearest(top, bottom):
+    """The whole number nearest to top / bottom, an exact half to the even neighbour: so Python rounds a fraction."""
+    return round(Fraction(top, bottom))
+
+
+THICKNESS = 500  # of a plate, so that the wall is 1,000
+
+
+def readings(diameter):
+    """Two circumferences that give an inner diameter by document 01."""
+    outer = diameter + 2 * THICKNESS
+    both = nearest(710 * outer, 113)
+    assert nearest(113 * both, 710) == outer
+    return both // 2, both - both // 2
 
 
 def survey(*, kind=0, dh=50_000, l1=100_000, left=160_221, right=160_221, l2=0, l3=0, step=10_000,

@@ -1,7 +1,7 @@
 //! What a survey file with spherical caps tries: for counting how often each
 //! edge of request E2 was tried.
 
-use crate::counted::counted;
+use crate::counted::{counted, Counted};
 use crate::dimensions::{d2, longest_cap};
 use crate::format::Format;
 use crate::limits::SPHERICAL_CAP;
@@ -48,7 +48,7 @@ impl Cap {
             Cap::HalfBall => 2 * h == d2,
             Cap::OnePastLongest => h == longest_cap(d2) + 1,
         };
-        Cap::ALL
+        Cap::all()
             .into_iter()
             .filter(|&cap| cap.refusal() == refusal && tries(cap))
             .collect()

@@ -1,7 +1,7 @@
 //! What an old survey file tries of the converter: for counting how often each
 //! edge was tried.
 
-use crate::counted::counted;
+use crate::counted::{counted, Counted};
 use crate::format::Format;
 use crate::limits::{COURSE_COUNT, DEADWOOD_COUNT, LARGEST_FILE};
 use crate::sections::headed;
@@ -46,7 +46,7 @@ impl Conversion {
             LargestFile => file.len() == LARGEST_FILE,
             Under56Bytes => file.len() < Format::Header56.header_bytes(),
         };
-        Conversion::ALL
+        Conversion::all()
             .into_iter()
             .filter(|&conversion| conversion.meets(refusal) && tries(conversion))
             .collect()

@@ -1,7 +1,7 @@
 //! Fittings ("deadwood") and the shares they take.
 
 use crate::heights::DipHeight;
-use crate::numbers::nearest;
+use crate::numbers::Quotient;
 
 /// "A deadwood item is 12 bytes: low height, high height (both dip heights),
 /// signed volume"; "positive takes room away, negative adds it".
@@ -16,7 +16,7 @@ pub struct Deadwood {
 /// or above its high height, and between them the share in proportion. The
 /// share is the nearest v of the size, the sign put on afterwards."
 pub fn share(item: &Deadwood, height: DipHeight) -> i64 {
-    let size = size_of_share(item, height);
+    let size = size_of_share(item, height).nearest() as i64;
     if item.volume < 0 {
         -size
     } else {
@@ -24,16 +24,12 @@ pub fn share(item: &Deadwood, height: DipHeight) -> i64 {
     }
 }
 
-fn size_of_share(item: &Deadwood, height: DipHeight) -> i64 {
-    let whole = i64::from(item.volume.unsigned_abs());
-    if height <= item.low {
-        0
-    } else if height >= item.high {
-        whole
-    } else {
-        let covered = u128::from(height.0 - item.low.0);
-        let span = u128::from(item.high.0 - item.low.0);
-        nearest(whole as u128 * covered, span) as i64
+/// The size of the share, unrounded. No more of an item is covered than there is.
+pub fn size_of_share(item: &Deadwood, height: DipHeight) -> Quotient {
+    let covered = height.clamp(item.low, item.high).0 - item.low.0;
+    Quotient {
+        top: u128::from(item.volume.unsigned_abs()) * u128::from(covered),
+        bottom: u128::from(item.high.0 - item.low.0),
     }
 }
 

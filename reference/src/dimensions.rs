@@ -2,7 +2,7 @@
 //! Refusals 7 and 14.
 
 use crate::limits::{DIAMETER, DIAMETER_FROM_DH, SPHERICAL_CAP};
-use crate::numbers::nearest;
+use crate::numbers::Quotient;
 use crate::refusal::{refuse, Refusal};
 use crate::survey::{Course, Survey};
 
@@ -53,6 +53,11 @@ pub fn d2(survey: &Survey) -> i64 {
 /// (first + second circumference)·length". "Weights stay each course's length
 /// over the sum of lengths", which need not be L1.
 pub fn shell_outer_diameter(courses: &[Course]) -> i64 {
+    shell_outer_quotient(courses).nearest() as i64
+}
+
+/// The same, unrounded.
+pub fn shell_outer_quotient(courses: &[Course]) -> Quotient {
     let mut w: u128 = 0;
     let mut lengths: u128 = 0;
     for course in courses {
@@ -60,22 +65,41 @@ pub fn shell_outer_diameter(courses: &[Course]) -> i64 {
         w += both * u128::from(course.length);
         lengths += u128::from(course.length);
     }
-    nearest(113 * w, 710 * lengths) as i64
+    Quotient {
+        top: 113 * w,
+        bottom: 710 * lengths,
+    }
 }
 
 /// "nearest of 113·(left + right) / 710".
 pub fn end_outer_diameter(left: u32, right: u32) -> i64 {
+    end_outer_quotient(left, right).nearest() as i64
+}
+
+/// The same, unrounded.
+pub fn end_outer_quotient(left: u32, right: u32) -> Quotient {
     let both = u128::from(left) + u128::from(right);
-    nearest(113 * both, 710) as i64
+    Quotient {
+        top: 113 * both,
+        bottom: 710,
+    }
 }
 
 /// "Wall: nearest of 2·(sum of thicknesses)/(course count)."
 pub fn wall(courses: &[Course]) -> i64 {
+    wall_quotient(courses).nearest() as i64
+}
+
+/// The same, unrounded.
+pub fn wall_quotient(courses: &[Course]) -> Quotient {
     let sum: u128 = courses
         .iter()
         .map(|course| u128::from(course.thickness))
         .sum();
-    nearest(2 * sum, courses.len() as u128) as i64
+    Quotient {
+        top: 2 * sum,
+        bottom: courses.len() as u128,
+    }
 }
 
 /// The diameter, if it is inside its limits and at most 10,000 from DH.

@@ -3,15 +3,16 @@
 //!
 //! A case is made in three steps: a plan of a survey (sound, with diameters at
 //! their limits, with spherical caps as long as can be or longer, with seams or
-//! corrected readings at an edge, or with deadwood that makes a row fall or
-//! almost fall), then none to three kinds of damage to its bytes, then a length
-//! for the table. A case for the converter is made likewise, in the old format
-//! and without a table.
+//! corrected readings at an edge, with deadwood that makes a row fall or almost
+//! fall, or with exact halves), then none to three kinds of damage to its bytes,
+//! then a length for the table. A case for the converter is made likewise, in the
+//! old format and without a table.
 
 pub mod caps;
 pub mod damage;
 pub mod diameters;
 pub mod falling;
+pub mod halves;
 pub mod lengths;
 pub mod lookups;
 pub mod plan;
@@ -40,8 +41,19 @@ pub fn case(seed: u64, number: u64) -> Case {
             table_len: MOST_ROWS,
         };
     }
-    let plan = any_plan(random);
-    let survey = encoded(random, &plan);
+    // A survey with halves is not damaged: refused for something else it would not
+    // come to them.
+    let with_halves = random.one_in(8);
+    let plan = if with_halves {
+        halves::halves(random, Format::TODAY)
+    } else {
+        any_plan(random)
+    };
+    let survey = if with_halves {
+        plan.encode()
+    } else {
+        encoded(random, &plan)
+    };
     let table_len = table_len(random, &plan);
     Case { survey, table_len }
 }
@@ -78,6 +90,7 @@ fn any_plan(random: &mut Random) -> Plan {
 fn old_plan(random: &mut Random) -> Plan {
     match random.between(1, 20) {
         1 => sound::most_records(random, Format::Header48),
+        2 => halves::halves(random, Format::Header48),
         _ => plan_of(random, Format::Header48),
     }
 }

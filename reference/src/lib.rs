@@ -1,6 +1,6 @@
 //! A second, independent program for dip tables of level, round tanks.
 //!
-//! It is written from the scope paper and requests E1, E2 and E4 of the paper
+//! It is written from the scope paper and requests E1, E2, E4 and E5 of the paper
 //! on later changes alone, and aims at being easy to compare with them, sentence by
 //! sentence. Sentences in quotation marks are taken from the papers. What the
 //! programs print beside that, and their sentences for refusals, are those of
@@ -14,7 +14,7 @@ pub mod bytes;
 pub mod caps;
 pub mod conversions;
 pub mod convert;
-mod counted;
+pub mod counted;
 pub mod deadwood;
 pub mod dimensions;
 pub mod domes;
@@ -22,6 +22,7 @@ pub mod format;
 pub mod generate;
 pub mod given;
 pub mod gross;
+pub mod halves;
 pub mod heights;
 pub mod limited;
 pub mod limits;

@@ -4,6 +4,7 @@
 //! volumes asked for are unsigned 32-bit numbers."
 
 use crate::limits;
+use crate::numbers::Quotient;
 use crate::refusal::{refuse, Refusal};
 use crate::rows::row_count;
 
@@ -59,21 +60,42 @@ fn check_table(dh: u32, step: u32, table: &[u32]) -> Result<(), Refusal> {
 }
 
 /// The litres at a height from 0 to DH of a table that has been checked.
-/// The last two rows may stand closer together than a step.
 fn litres(dh: u32, step: u32, table: &[u32], height: u32) -> u32 {
-    if height == dh {
-        return table[table.len() - 1];
+    Gap::around(dh, step, table, height).at(height).nearest() as u32
+}
+
+/// Two neighbour rows and the heights at which they stand.
+#[derive(Clone, Copy, Debug, PartialEq, Eq)]
+pub struct Gap {
+    pub low_height: u32,
+    pub high_height: u32,
+    pub low_row: u32,
+    pub high_row: u32,
+}
+
+impl Gap {
+    /// The gap of a table that has been checked in which a height from 0 to DH
+    /// lies: the one above a row, of the last row the one below. The last two
+    /// rows may stand closer together than a step.
+    pub fn around(dh: u32, step: u32, table: &[u32], height: u32) -> Gap {
+        let index = (height / step).min(table.len() as u32 - 2);
+        let low_height = index * step;
+        Gap {
+            low_height,
+            high_height: (low_height + step).min(dh),
+            low_row: table[index as usize],
+            high_row: table[index as usize + 1],
+        }
     }
-    let index = (height / step) as usize;
-    let low_height = index as u32 * step;
-    if height == low_height {
-        return table[index];
+
+    /// The litres on the straight line at a height in the gap, unrounded; at
+    /// either end the row itself.
+    pub fn at(self, height: u32) -> Quotient {
+        let over = |row: u32, length: u32| u128::from(row) * u128::from(length);
+        Quotient {
+            top: over(self.low_row, self.high_height - height)
+                + over(self.high_row, height - self.low_height),
+            bottom: u128::from(self.high_height - self.low_height),
+        }
     }
-    let high_height = (low_height + step).min(dh);
-    let low_row = u64::from(table[index]);
-    let high_row = u64::from(table[index + 1]);
-    let rise = (high_row - low_row) * u64::from(height - low_height);
-    let span = u64::from(high_height - low_height);
-    // "nearest v": halves up, and the low row is whole.
-    (low_row + (2 * rise + span) / (2 * span)) as u32
 }

@@ -3,7 +3,7 @@
 //! (8Nt/3)·root(t/d)". Thickness, width and diameter are lengths in u, so both
 //! terms are in u too.
 
-use crate::numbers::{nearest, root_of_fraction_down};
+use crate::numbers::{root_of_fraction_down, Quotient};
 use crate::survey::Course;
 
 /// The seams that the tape crosses on a course: "N seams of thickness t and
@@ -31,8 +31,7 @@ impl Seams {
 
     /// "The first term is the nearest u".
     pub fn first_term(self, dh: u32) -> u128 {
-        let (top, bottom) = self.first_fraction(dh);
-        nearest(top, bottom)
+        self.first_quotient(dh).nearest()
     }
 
     /// "the second is the largest whole u whose square does not exceed
@@ -43,9 +42,12 @@ impl Seams {
     }
 
     /// 2Ntw/d, unrounded.
-    pub fn first_fraction(self, dh: u32) -> (u128, u128) {
+    pub fn first_quotient(self, dh: u32) -> Quotient {
         let [n, t, w] = self.numbers();
-        (2 * n * t * w, u128::from(dh))
+        Quotient {
+            top: 2 * n * t * w,
+            bottom: u128::from(dh),
+        }
     }
 
     /// 64N²t³/(9d), the square of (8Nt/3)·root(t/d), unrounded.

@@ -2,7 +2,7 @@
 //! each edge of request E4 was tried.
 
 use crate::bytes::unsigned_at;
-use crate::counted::counted;
+use crate::counted::{counted, Counted};
 use crate::dimensions::{shell_outer_diameter, wall};
 use crate::format::Format;
 use crate::limited::{course_numbers, seam_numbers};
@@ -18,7 +18,6 @@ counted! {
     pub enum Rise {
         NoSeams => "no seams at all",
         NoRise => "seams without a rise",
-        RoundedHalf => "a first term that is a half rounded up",
         ExactRoot => "a second term that is an exact root",
         Largest => "the largest seams",
         OtherD1 => "another D1 than without seams",
@@ -60,7 +59,7 @@ fn of_accepted(file: &[u8]) -> Vec<Rise> {
     let Ok(survey) = parse(file, Format::TODAY) else {
         return Vec::new();
     };
-    let mut tried: Vec<Rise> = Rise::ALL
+    let mut tried: Vec<Rise> = Rise::all()
         .into_iter()
         .filter(|&rise| tries(&survey, rise))
         .collect();
@@ -77,10 +76,6 @@ fn tries(survey: &Survey, rise: Rise) -> bool {
         NoRise => {
             any(&|seams| seams.number * seams.thickness * seams.width > 0 && seams.rise(dh) == 0)
         }
-        RoundedHalf => any(&|seams| {
-            let (top, bottom) = seams.first_fraction(dh);
-            2 * (top % bottom) == bottom
-        }),
         ExactRoot => any(&|seams| {
             let (top, bottom) = seams.second_squared(dh);
             let root = seams.second_term(dh);

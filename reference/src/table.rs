@@ -1,4 +1,5 @@
-//! Making a table from a survey. Refusals 8 to 10, after 1 to 7 and 14.
+//! Making a table from a survey, in two steps: a tank is laid out from it (refusals
+//! 1 to 8 and 14), then rows are made of the tank (9 and 10).
 
 use crate::deadwood::all_shares;
 use crate::dimensions::dimensions;
@@ -36,6 +37,12 @@ pub fn make_table(survey: &[u8], table_len: usize) -> Result<Table, Refusal> {
 
 /// The same of a survey in any format.
 pub fn make_table_of(survey: &[u8], format: Format, table_len: usize) -> Result<Table, Refusal> {
+    table_of_tank(&lay_out(survey, format, table_len)?)
+}
+
+/// The tank of a survey in any format, if it passes all that is tested before its
+/// rows.
+pub fn lay_out(survey: &[u8], format: Format, table_len: usize) -> Result<Tank, Refusal> {
     let survey = parse(survey, format)?; // refusals 1 to 6
     let dimensions = dimensions(&survey)?; // refusals 7 and 14
 
@@ -44,13 +51,12 @@ pub fn make_table_of(survey: &[u8], format: Format, table_len: usize) -> Result<
         return Err(refuse(8));
     }
 
-    // "Net = gross minus all shares."
-    let tank = Tank::new(&survey, dimensions);
-    let mut net: Vec<i64> = Vec::new();
-    for height in row_heights(survey.dh, survey.step) {
-        net.push(tank.gross(height) as i64 - all_shares(&survey.deadwood, height));
-    }
+    Ok(Tank::new(&survey, dimensions))
+}
 
+/// The table of a tank, if its rows are sound.
+pub fn table_of_tank(tank: &Tank) -> Result<Table, Refusal> {
+    let net = net_rows(tank);
     check_net_rows(&net)?;
 
     // "Its cells are unsigned 32-bit numbers of v; every accepted net row fits."
@@ -59,10 +65,19 @@ pub fn make_table_of(survey: &[u8], format: Format, table_len: usize) -> Result<
         .map(|&row| u32::try_from(row).expect("every accepted net row fits"))
         .collect();
     Ok(Table {
-        d1: dimensions.d1,
-        d2: dimensions.d2,
+        d1: tank.dimensions.d1,
+        d2: tank.dimensions.d2,
         rows,
     })
+}
+
+/// "Net = gross minus all shares", at each row.
+pub fn net_rows(tank: &Tank) -> Vec<i64> {
+    let survey = &tank.survey;
+    row_heights(survey.dh, survey.step)
+        .into_iter()
+        .map(|height| tank.gross(height) as i64 - all_shares(&survey.deadwood, height))
+        .collect()
 }
 
 /// Refusals 9 and 10, in this order: a fall is looked for in the whole table
@@ -88,11 +103,15 @@ pub fn check_net_rows(net: &[i64]) -> Result<(), Refusal> {
     Ok(())
 }
 
-/// The same with lent memory: "the lent table holds the net rows from its
-/// start and is unchanged after them"; a refusal "leaves lent memory
-/// untouched".
+/// The same with lent memory.
 pub fn fill_table(survey: &[u8], lent: &mut [u32]) -> Answer {
-    match make_table(survey, lent.len()) {
+    fill(make_table(survey, lent.len()), lent)
+}
+
+/// "the lent table holds the net rows from its start and is unchanged after
+/// them"; a refusal "leaves lent memory untouched".
+pub fn fill(made: Result<Table, Refusal>, lent: &mut [u32]) -> Answer {
+    match made {
         Ok(table) => {
             lent[..table.rows.len()].copy_from_slice(&table.rows);
             Answer {

@@ -4,6 +4,7 @@ mod common;
 
 use common::*;
 use reference::caps::Cap;
+use reference::counted::Tally;
 use reference::dimensions::d2;
 use reference::generate::{case, sound::sound};
 use reference::limits::SPHERICAL_CAP;
@@ -76,14 +77,12 @@ fn sound_caps() {
 /// refusal 7 comes first or refusal 8 would come next.
 #[test]
 fn generated_caps() {
-    let mut seen = [0; Cap::ALL.len()];
+    let mut seen = Tally::default();
     let [mut seven_first, mut eight_next] = [0, 0];
     for number in 0..4_000 {
         let case = case(9, number);
         let refusal = outcome(&case.survey, case.table_len).0;
-        for cap in Cap::of_survey(&case.survey, refusal) {
-            seen[cap as usize] += 1;
-        }
+        seen.add(Cap::of_survey(&case.survey, refusal));
         let Ok(survey) = parse(&case.survey, Format::TODAY) else {
             continue;
         };
@@ -93,7 +92,7 @@ fn generated_caps() {
             eight_next += u32::from(refusal == 14 && short);
         }
     }
-    assert!(seen.iter().all(|&count| count > 10), "{seen:?}");
+    assert!(seen.least() > 10, "{seen:?}");
     assert!(seven_first > 10, "{seven_first}");
     assert!(eight_next > 3, "{eight_next}");
 }

@@ -168,7 +168,7 @@ fn readings_of_a_dome() {
     ] {
         let height = ShellHeight(height);
         assert_eq!(domes.totals(height), Totals { fitting, covering });
-        assert_eq!(domes.row(height), row);
+        assert_eq!(domes.row(height).nearest(), row);
         assert_eq!(domes.difference(height), 2 * (covering - fitting));
     }
 }
@@ -220,12 +220,12 @@ fn formula_28_full_and_half_full() {
             assert!(high <= share * 2 * covering * BOTTOM, "{dome:?}");
 
             // Twice the row, and of twice the volume the lowest and the highest.
-            let row = 2 * u128::from(domes.row(height)) * CUBIC_U_IN_V * BOTTOM * share;
+            let row = 2 * domes.row(height).nearest() * CUBIC_U_IN_V * BOTTOM * share;
             let room = (domes.difference(height) + CUBIC_U_IN_V) * BOTTOM * share;
             assert!(row <= 2 * low + room && 2 * high <= row + room, "{dome:?}");
         }
         let full = ShellHeight(dome.d);
-        let row = domes.row(full) as f64 / 100.0;
+        let row = domes.row(full).nearest() as f64 / 100.0;
         let [d, h] = [dome.d, dome.h].map(f64::from);
         let volume = litres(std::f64::consts::PI * h / 3.0 * (0.75 * d * d + h * h));
         println!(
@@ -267,7 +267,7 @@ fn rows_of_a_table() {
             let domes = Domes::new(dome(d2, l3));
             let heights = (0..).map(|index| (index * 1_234).min(50_000));
             for (height, (flat, caps)) in heights.zip(flat.rows.iter().zip(&caps.rows)) {
-                let heads = domes.row(ShellHeight(height));
+                let heads = domes.row(ShellHeight(height)).nearest() as u64;
                 assert_eq!(u64::from(caps - flat), heads, "{d2} {l3} {height}");
             }
         }
@@ -291,7 +291,7 @@ fn a_full_table_with_a_level_cut_short() {
     let domes = Domes::new(dome(50_450, 3_333));
     for (index, height) in [(5, 50_000), (6, 50_450)] {
         let heads = u64::from(table.rows[index] - flat.rows[index]);
-        assert_eq!(heads, domes.row(ShellHeight(height)));
+        assert_eq!(heads, domes.row(ShellHeight(height)).nearest() as u64);
     }
     let Totals { covering, .. } = domes.totals(ShellHeight(50_450));
     let Totals {

@@ -5,7 +5,9 @@ use reference::dimensions::dimensions;
 use reference::generate::{case, sound_case};
 use reference::gross::Tank;
 use reference::heights::{corrected, DipHeight, ShellHeight};
-use reference::numbers::{nearest, root_down, root_of_fraction_down, root_of_fraction_up, root_up};
+use reference::numbers::{
+    root_down, root_of_fraction_down, root_of_fraction_up, root_up, Quotient,
+};
 use reference::random::Random;
 use reference::rows::{row_count, row_heights, MOST_ROWS};
 use reference::survey::parse;
@@ -187,10 +189,16 @@ fn roots_and_rounding() {
         assert!(bottom * down * down <= square && square < bottom * (down + 1) * (down + 1));
         let up = root_of_fraction_up(square, bottom);
         assert!(bottom * up * up >= square && (up == 0 || bottom * (up - 1) * (up - 1) < square));
-        let whole = nearest(square, bottom);
-        // whole - 1/2 <= square/bottom < whole + 1/2
-        assert!(2 * square + bottom >= 2 * whole * bottom);
-        assert!(2 * square < (2 * whole + 1) * bottom);
+        let quotient = Quotient {
+            top: square,
+            bottom,
+        };
+        let whole = quotient.nearest();
+        // At most a half from it; exactly that, and it is even.
+        let off = (2 * square).abs_diff(2 * whole * bottom);
+        assert!(off <= bottom);
+        assert_eq!(quotient.half().is_some(), off == bottom);
+        assert!(off < bottom || whole.is_multiple_of(2));
     }
 }
 

@@ -117,12 +117,42 @@ fn the_short_last_step() {
     assert_eq!(height(50_000, 9_999, &table, 103), Ok(49_998));
 }
 
+/// The value on the line is rounded, not what it has risen: between rows 0 and 1
+/// the middle, 0.5, is 0; between 1 and 2 it is 2, between 2 and 3 also 2.
 #[test]
-fn halves_go_up() {
-    let table = [0, 1, 1, 1, 1, 1];
-    assert_eq!(litres(50_000, 10_000, &table, 4_999), Ok(0));
-    assert_eq!(litres(50_000, 10_000, &table, 5_000), Ok(1));
-    assert_eq!(height(50_000, 10_000, &table, 1), Ok(5_000));
+fn halves_go_to_the_even_row() {
+    let table = [0, 1, 2, 3, 4, 5];
+    let around_middles = [
+        (4_999, 0),
+        (5_000, 0),
+        (5_001, 1),
+        (14_999, 1),
+        (15_000, 2),
+        (15_001, 2),
+        (24_999, 2),
+        (25_000, 2),
+        (25_001, 3),
+        (35_000, 4),
+        (45_000, 4),
+    ];
+    for (at, wanted) in around_middles {
+        assert_eq!(litres(50_000, 10_000, &table, at), Ok(wanted), "{at}");
+    }
+    // The lowest heights: a half that goes up reaches its row, one that goes
+    // down does not.
+    for (volume, wanted) in [
+        (1, 5_001),
+        (2, 15_000),
+        (3, 25_001),
+        (4, 35_000),
+        (5, 45_001),
+    ] {
+        assert_eq!(
+            height(50_000, 10_000, &table, volume),
+            Ok(wanted),
+            "{volume}"
+        );
+    }
 }
 
 #[test]

@@ -6,7 +6,7 @@ use common::*;
 use reference::deadwood::{share, Deadwood};
 use reference::dimensions::{end_outer_diameter, shell_outer_diameter};
 use reference::heights::{DipHeight, ShellHeight};
-use reference::numbers::{half_down, nearest};
+use reference::numbers::{half_down, Quotient};
 use reference::printed::Opened;
 use reference::rows::{row_count, row_heights, MOST_ROWS};
 use reference::survey::Course;
@@ -35,9 +35,14 @@ fn halves() {
     assert_eq!(half_down(3), 1);
 }
 
+/// Request E5: "The proved case of 5/2 becomes 2".
 #[test]
 fn nearest_of_five_halves() {
-    assert_eq!(nearest(5, 2), 3);
+    assert_eq!(nearest(5, 2), 2);
+}
+
+fn nearest(top: u128, bottom: u128) -> u128 {
+    Quotient { top, bottom }.nearest()
 }
 
 #[test]
@@ -54,10 +59,12 @@ fn two_readings_of_160_221() {
 
 #[test]
 fn head_volumes() {
-    assert_eq!(heads(260_000, ShellHeight(130_000), 65_000), 230_069);
-    assert_eq!(heads(260_000, ShellHeight(260_000), 65_000), 460_139);
+    let heads = |h2| heads(260_000, ShellHeight(h2), 65_000).nearest();
+    assert_eq!(heads(130_000), 230_069);
+    assert_eq!(heads(260_000), 460_139);
 }
 
+/// Request E5: "the item of volume -1 at its middle takes 0".
 #[test]
 fn deadwood_shares() {
     let item = |volume| Deadwood {
@@ -66,7 +73,7 @@ fn deadwood_shares() {
         volume,
     };
     assert_eq!(share(&item(100), DipHeight(151)), 50);
-    assert_eq!(share(&item(-1), DipHeight(150)), -1);
+    assert_eq!(share(&item(-1), DipHeight(150)), 0);
 }
 
 #[test]

@@ -60,12 +60,19 @@ fn the_largest() {
     assert_eq!(terms(largest, 500_000), (240, 1_431));
 }
 
-/// 2·1·100·125/50,000 is exactly 0.5 and goes up; with one u less of width it
-/// is 0.496. 2·1·100·375/50,000 is 1.5.
+/// Request E5: 2·1·100·125/50,000 is exactly 0.5 and goes to 0; with one u more of
+/// width it is 0.504. 2·1·100·375/50,000 is 1.5 and goes to 2, one u less is 1.496.
+/// 625 gives 2.5, which goes to 2, and 875 gives 3.5, which goes to 4.
 #[test]
-fn the_first_terms_half_goes_up() {
-    for (width, wanted) in [(124, 0), (125, 1), (126, 1), (374, 1), (375, 2), (376, 2)] {
-        assert_eq!(seams(1, 100, width).first_term(50_000), wanted, "{width}");
+fn the_first_terms_half_goes_to_the_even_number() {
+    for (widths, wanted) in [
+        ([124, 125, 126], [0, 0, 1]),
+        ([374, 375, 376], [1, 2, 2]),
+        ([624, 625, 626], [2, 2, 3]),
+        ([874, 875, 876], [3, 4, 4]),
+    ] {
+        let terms = widths.map(|width| seams(1, 100, width).first_term(50_000));
+        assert_eq!(terms, wanted, "{widths:?}");
     }
 }
 
@@ -79,13 +86,16 @@ fn the_second_terms_exact_root() {
     assert_eq!(seams(3, 500, 0).second_term(50_001), 399);
 }
 
-/// The two terms are rounded each for itself. N = 1, t = 100, w = 125, d =
-/// 50,000: 0.5 and, of 64·1,000,000/450,000 = 142.2, 11.93. Together that is
-/// 12.43; each for itself 1 and 11.
+/// The two terms are rounded each for itself. N = 1, t = 100, w = 375, d =
+/// 50,000: 1.5 and, of 64·1,000,000/450,000 = 142.2, 11.93. Together that is
+/// 13.43; each for itself 2 and 11. With w = 125 the first is 0.5, together 12.43;
+/// each for itself 0 and 11.
 #[test]
 fn each_term_alone() {
-    assert_eq!(terms(seams(1, 100, 125), 50_000), (1, 11));
-    assert_eq!(seams(1, 100, 125).rise(50_000), 12);
+    assert_eq!(terms(seams(1, 100, 375), 50_000), (2, 11));
+    assert_eq!(seams(1, 100, 375).rise(50_000), 13);
+    assert_eq!(terms(seams(1, 100, 125), 50_000), (0, 11));
+    assert_eq!(seams(1, 100, 125).rise(50_000), 11);
     // N = 1, t = 100, w = 100: 0.4 and 11.93, 12.33 together; 0 and 11.
     assert_eq!(seams(1, 100, 100).rise(50_000), 11);
     // N = 1, t = 20, w = 1,000: 0.8 and, of 64·8,000/450,000, 1.07; 1 and 1.

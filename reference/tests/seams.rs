@@ -4,6 +4,7 @@ mod common;
 
 use common::*;
 use reference::conversions::Conversion;
+use reference::counted::Tally;
 use reference::generate::sound::sound;
 use reference::generate::{case, old_case};
 use reference::random::Random;
@@ -34,7 +35,6 @@ fn rises_of_a_survey() {
         ([0, 0, 0], 0, vec![NoSeams]),
         ([1, 1, 5_000], 0, vec![NoRise]),
         ([0, 1_000, 5_000], 0, vec![]),
-        ([1, 100, 125], 12, vec![RoundedHalf, OtherD1]),
         ([1, 100, 124], 11, vec![OtherD1]),
         ([3, 500, 10], 401, vec![ExactRoot, OtherD1]),
         ([3, 499, 10], 399, vec![OtherD1]),
@@ -150,15 +150,13 @@ fn old_surveys_have_no_seams() {
 /// The generated cases come to each edge.
 #[test]
 fn generated_rises() {
-    let mut seen = [0; Rise::ALL.len()];
+    let mut seen = Tally::default();
     for number in 0..4_000 {
         let case = case(15, number);
         let refusal = make_table(&case.survey, case.table_len).err();
-        for rise in Rise::of_survey(&case.survey, refusal) {
-            seen[rise as usize] += 1;
-        }
+        seen.add(Rise::of_survey(&case.survey, refusal));
     }
-    assert!(seen.iter().all(|&count| count > 10), "{seen:?}");
+    assert!(seen.least() > 10, "{seen:?}");
 }
 
 /// What the comparison counts of old files.
@@ -199,13 +197,11 @@ fn conversions_of_a_survey() {
 /// The generated old files come to each edge.
 #[test]
 fn generated_conversions() {
-    let mut seen = [0; Conversion::ALL.len()];
+    let mut seen = Tally::default();
     for number in 0..2_000 {
         let file = old_case(16, number);
         let refusal = convert(&file).map_or_else(|refusal| refusal.number, |_| 0);
-        for conversion in Conversion::of_survey(&file, refusal) {
-            seen[conversion as usize] += 1;
-        }
+        seen.add(Conversion::of_survey(&file, refusal));
     }
-    assert!(seen.iter().all(|&count| count > 10), "{seen:?}");
+    assert!(seen.least() > 10, "{seen:?}");
 }

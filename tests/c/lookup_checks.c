@@ -1,5 +1,5 @@
 /* milechime_litres and milechime_height: the paper's two readings, rows, the
- * highest and lowest that may be asked, and refusals 11 to 13. */
+ * highest and lowest that may be asked, exact halves, and refusals 11 to 13. */
 #include "checks.h"
 
 #include "check.h"
@@ -50,6 +50,31 @@ static void readings(const uint32_t *table)
           "the last row is first reached at height 49,999");
 }
 
+/* The value between two rows is rounded, and not what it has more than the
+ * lower row: between 1 and 2 that would be a half too, and give 1. */
+static void halves(void)
+{
+    static const uint32_t rows[PAPER_ROWS] = {1, 2, 3, 4, 4, 5};
+    uint32_t *table = lent_cells(PAPER_ROWS);
+    memcpy(table, rows, sizeof rows);
+    static const struct {
+        uint32_t height, volume;
+        const char *what;
+    } middle[] = {
+        {5000, 2, "the middle of rows 1 and 2 is 2"},
+        {15000, 2, "the middle of rows 2 and 3 is 2"},
+        {25000, 4, "the middle of rows 3 and 4 is 4"},
+        {45000, 4, "the middle of rows 4 and 5 is 4"},
+    };
+    for (size_t i = 0; i < sizeof middle / sizeof middle[0]; i++)
+        check(gives_litres(milechime_litres(PAPER_DH, PAPER_STEP, table, PAPER_ROWS, middle[i].height), 0, middle[i].volume),
+              middle[i].what);
+    check(gives_height(milechime_height(PAPER_DH, PAPER_STEP, table, PAPER_ROWS, 2), 0, 5000), "2 v is first reached halfway to it");
+    check(gives_height(milechime_height(PAPER_DH, PAPER_STEP, table, PAPER_ROWS, 3), 0, 15001), "3 v is first reached past halfway to it");
+    check(gives_height(milechime_height(PAPER_DH, PAPER_STEP, table, PAPER_ROWS, 5), 0, 45001), "5 v is first reached past halfway to it");
+    check(memcmp(table, rows, sizeof rows) == 0, "and the table is left as it was");
+}
+
 static void refusals(uint32_t *table)
 {
     check(gives_litres(milechime_litres(PAPER_DH, PAPER_STEP, table, PAPER_ROWS, PAPER_DH + 1), 12, 0), "a height above DH: refusal 12");
@@ -74,5 +99,6 @@ void lookup_checks(void)
     uint32_t *table = paper_table();
     readings(table);
     check(memcmp(table, paper_rows, sizeof paper_rows) == 0, "a lookup leaves the table as it was");
+    halves();
     refusals(table);
 }

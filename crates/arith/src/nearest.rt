@@ -1,4 +1,4 @@
-// The nearest quotient, halves up.
+// The nearest quotient, an exact half to the even neighbour.
 ghost use mathlib.Core.Path.{_≡_};
 ghost use Prim.Native.Nat.{_+_, _*_, _^_, _<_};
 ghost use Rattle.laws.specs.Nearest.{nearest};
@@ -8,10 +8,15 @@ pub fn round_rest(quotient: u64, rest: u64, divisor: u64) -> u64
     requires { ⌜ (rest < divisor) × (quotient < 2 ^ 63) ⌝ }
     ensures { λ r. ⌜ r ≡ nearest (quotient * divisor + rest) divisor ⌝ }
 {
-    if divisor - rest <= rest {
-        quotient + 1
-    } else {
+    let lack = divisor - rest;
+    if rest < lack {
         quotient
+    } else if lack < rest {
+        quotient + 1
+    } else if quotient % 2 == 0 {
+        quotient
+    } else {
+        quotient + 1
     }
 }
 

@@ -13,10 +13,10 @@ pub two-seams : (firstTerm (seam 2 200 1200) 260000 ≡ 4) × ((secondTerm (seam
 unfolding nearest root rootOf firstTerm secondTerm tapeRise
 two-seams = (refl, (refl, refl))
 
--- a first term of 75,000/50,000, halfway between 1 and 2: up; with a u less of width, down
-pub half-up : (firstTerm (seam 1 100 375) 50000 ≡ 2) × (firstTerm (seam 1 100 374) 50000 ≡ 1)
+-- first terms of 75,000/50,000, halfway between 1 and 2, and of 125,000/50,000, halfway between 2 and 3: 2 either way
+pub half-to-even : (firstTerm (seam 1 100 375) 50000 ≡ 2) × (firstTerm (seam 1 100 625) 50000 ≡ 2)
 unfolding nearest firstTerm
-half-up = (refl, refl)
+half-to-even = (refl, refl)
 
 -- a second term whose square is exactly 64·9·1,000,000/(9·160,000) = 400; on a diameter of a u more it is a whole u less
 pub exact-root : (secondTerm (seam 3 100 800) 160000 ≡ 20) × (secondTerm (seam 3 100 800) 160001 ≡ 19)

@@ -2,9 +2,11 @@
 //! table of that file, and what `tankconvert` writes.
 
 use crate::run::Runs;
-use crate::seen::{Conversions, Seen, Sentences};
+use crate::seen::{print_tally, Seen, Sentences};
 use crate::surveys::{cells, keep};
 use compare::calls::{self, ConvertedAnswer, TableAnswer, MOST_BYTES};
+use reference::conversions::Conversion;
+use reference::counted::Tally;
 use reference::generate::old_case;
 use reference::printed::conversion;
 use reference::random::Random;
@@ -21,7 +23,7 @@ pub struct Comparison<'a> {
     program: &'a Path,
     runs: Runs<'a>,
     refusals: Seen,
-    conversions: Conversions,
+    conversions: Tally<Conversion>,
     sentences: Sentences,
     mismatches: u64,
 }
@@ -34,7 +36,7 @@ impl Comparison<'_> {
             program,
             runs: Runs::new(folder),
             refusals: Seen::new([1, 2, 3, 4, 5, 6, 7, 9, 14]),
-            conversions: Conversions::default(),
+            conversions: Tally::default(),
             sentences: Sentences::new(SENTENCES),
             mismatches: 0,
         }
@@ -68,7 +70,7 @@ impl Comparison<'_> {
     /// Prints what was seen, and says whether it was often enough.
     pub fn print(&self) -> bool {
         let refusals = self.refusals.print("old surveys");
-        let conversions = self.conversions.print();
+        let conversions = print_tally("old surveys by what is converted", &self.conversions);
         let sentences = self.sentences.print("sentences for old surveys");
         println!("runs of the converter: {}", self.runs.count());
         refusals && conversions && sentences
@@ -80,7 +82,8 @@ impl Comparison<'_> {
         let ours = calls::convert_48(old);
         let reference = by_reference(old);
         self.refusals.add(reference.refusal);
-        self.conversions.add(old, reference.refusal);
+        self.conversions
+            .add(Conversion::of_survey(old, reference.refusal));
         if ours != reference {
             self.mismatches += 1;
             report(&ours, &reference);

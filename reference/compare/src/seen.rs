@@ -1,12 +1,7 @@
-//! How often each refusal, each miss of the course lengths, each edge of
-//! spherical caps, of seams and of conversions, and each of the sentences was
+//! How often each refusal, each thing that files try and each of the sentences was
 //! seen.
 
-use reference::caps::Cap;
-use reference::conversions::Conversion;
-use reference::misses::Miss;
-use reference::rises::Rise;
-use reference::Refusal;
+use reference::counted::{Counted, Tally};
 use std::collections::BTreeMap;
 
 /// Refusal 10 cannot come out of a survey: row 0 is never below zero, and a
@@ -56,103 +51,19 @@ impl Seen {
     }
 }
 
-/// Surveys that pass refusals 1 to 5, by how much their course lengths miss L1.
-#[derive(Default)]
-pub struct Misses {
-    counts: BTreeMap<Miss, u64>,
-}
-
-impl Misses {
-    pub fn add(&mut self, survey: &[u8]) {
-        if let Some(miss) = Miss::of_survey(survey) {
-            *self.counts.entry(miss).or_default() += 1;
-        }
-    }
-
-    /// Prints the counts, and says whether each miss was seen often enough.
-    pub fn print(&self) -> bool {
-        println!("surveys by how much their course lengths miss L1");
-        print_all(Miss::ALL, Miss::name, &self.counts)
-    }
-}
-
-/// Surveys with spherical caps, by what they try.
-#[derive(Default)]
-pub struct Caps {
-    counts: BTreeMap<Cap, u64>,
-}
-
-impl Caps {
-    /// Counts a survey that met this refusal, or 0.
-    pub fn add(&mut self, survey: &[u8], refusal: u32) {
-        for cap in Cap::of_survey(survey, refusal) {
-            *self.counts.entry(cap).or_default() += 1;
-        }
-    }
-
-    /// Prints the counts, and says whether each was seen often enough.
-    pub fn print(&self) -> bool {
-        println!("surveys with spherical caps");
-        print_all(Cap::ALL, Cap::name, &self.counts)
-    }
-}
-
-/// Surveys by what they try of the rise over seams.
-#[derive(Default)]
-pub struct Rises {
-    counts: BTreeMap<Rise, u64>,
-}
-
-impl Rises {
-    /// Counts a survey that met this refusal, or none.
-    pub fn add(&mut self, survey: &[u8], refusal: Option<Refusal>) {
-        for rise in Rise::of_survey(survey, refusal) {
-            *self.counts.entry(rise).or_default() += 1;
-        }
-    }
-
-    /// Prints the counts, and says whether each was seen often enough.
-    pub fn print(&self) -> bool {
-        println!("surveys by their seams");
-        print_all(Rise::ALL, Rise::name, &self.counts)
-    }
-}
-
-/// Old surveys by what they try of the converter.
-#[derive(Default)]
-pub struct Conversions {
-    counts: BTreeMap<Conversion, u64>,
-}
-
-impl Conversions {
-    /// Counts an old survey that met this refusal, or 0.
-    pub fn add(&mut self, survey: &[u8], refusal: u32) {
-        for conversion in Conversion::of_survey(survey, refusal) {
-            *self.counts.entry(conversion).or_default() += 1;
-        }
-    }
-
-    /// Prints the counts, and says whether each was seen often enough.
-    pub fn print(&self) -> bool {
-        println!("old surveys by what is converted");
-        print_all(Conversion::ALL, Conversion::name, &self.counts)
-    }
-}
-
-/// Prints how often each of these was seen, on one line, and says whether that
-/// was often enough.
-fn print_all<T: Copy + Ord, const N: usize>(
-    all: [T; N],
-    name: impl Fn(T) -> &'static str,
-    counts: &BTreeMap<T, u64>,
-) -> bool {
-    let counts = all.map(|one| (name(one), counts.get(&one).copied().unwrap_or(0)));
-    let told = counts.map(|(name, count)| {
-        let too_few = if count < ENOUGH { ", TOO FEW" } else { "" };
-        format!("{name}: {count}{too_few}")
-    });
+/// Prints how often each of some things was tried, on one line, and says whether
+/// that was often enough.
+pub fn print_tally<T: Counted>(what: &str, tally: &Tally<T>) -> bool {
+    let told: Vec<String> = tally
+        .counts()
+        .map(|(name, count)| {
+            let too_few = if count < ENOUGH { ", TOO FEW" } else { "" };
+            format!("{name}: {count}{too_few}")
+        })
+        .collect();
+    println!("{what}");
     println!("  {}", told.join("; "));
-    counts.iter().all(|&(_, count)| count >= ENOUGH)
+    tally.least() >= ENOUGH
 }
 
 /// The sentences on standard error, each with its numbers left out.

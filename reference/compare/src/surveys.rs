@@ -1,9 +1,18 @@
 //! Surveys: the whole answer, and every lent cell.
 
-use crate::seen::{Caps, Misses, Rises, Seen};
+use crate::seen::{print_tally, Seen};
 use compare::calls::{self, TableAnswer};
+use reference::caps::Cap;
+use reference::counted::Tally;
 use reference::generate::{case, Case};
-use reference::{fill_table, Refusal};
+use reference::gross::Tank;
+use reference::halves::falls::Fall;
+use reference::halves::Rounded;
+use reference::misses::Miss;
+use reference::numbers::Half;
+use reference::rises::Rise;
+use reference::table::{fill, lay_out, table_of_tank};
+use reference::{Format, Refusal, Table};
 use std::path::Path;
 
 /// Cells before and behind the lent table, which no call may touch.
@@ -20,9 +29,11 @@ struct Outcome {
 /// What the compared surveys were.
 pub struct Tried {
     refusals: Seen,
-    misses: Misses,
-    caps: Caps,
-    rises: Rises,
+    misses: Tally<Miss>,
+    caps: Tally<Cap>,
+    rises: Tally<Rise>,
+    halves: Tally<(Rounded, Half)>,
+    falls: Tally<Fall>,
 }
 
 impl Tried {
@@ -30,31 +41,42 @@ impl Tried {
     pub fn new() -> Tried {
         Tried {
             refusals: Seen::new((1..=10).chain([14])),
-            misses: Misses::default(),
-            caps: Caps::default(),
-            rises: Rises::default(),
+            misses: Tally::default(),
+            caps: Tally::default(),
+            rises: Tally::default(),
+            halves: Tally::default(),
+            falls: Tally::default(),
         }
     }
 
-    fn add(&mut self, survey: &[u8], answer: TableAnswer) {
-        let refusal = Refusal {
-            number: answer.refusal,
-            place: answer.place,
-        };
-        self.refusals.add(refusal.number);
-        self.misses.add(survey);
-        self.caps.add(survey, refusal.number);
-        let refusal = Some(refusal).filter(|refusal| refusal.number != 0);
-        self.rises.add(survey, refusal);
+    /// Counts a survey with its tank, if it could be laid out, and its refusal, if
+    /// any.
+    fn add(&mut self, survey: &[u8], tank: Option<&Tank>, refusal: Option<Refusal>) {
+        let number = refusal.map_or(0, |refusal| refusal.number);
+        self.refusals.add(number);
+        self.misses.add(Miss::of_survey(survey));
+        self.caps.add(Cap::of_survey(survey, number));
+        self.rises.add(Rise::of_survey(survey, refusal));
+        if let Some(tank) = tank {
+            self.falls.add(Fall::of_tank(tank));
+            if refusal.is_none() {
+                self.halves.add(Rounded::of_tank(tank));
+            }
+        }
     }
 
     /// Prints all of it, and says whether it was often enough.
     pub fn print(&self) -> bool {
         let refusals = self.refusals.print("surveys");
-        let misses = self.misses.print();
-        let caps = self.caps.print();
-        let rises = self.rises.print();
-        refusals && misses && caps && rises
+        let misses = print_tally(
+            "surveys by how much their course lengths miss L1",
+            &self.misses,
+        );
+        let caps = print_tally("surveys with spherical caps", &self.caps);
+        let rises = print_tally("surveys by their seams", &self.rises);
+        let halves = print_tally("surveys with exact halves", &self.halves);
+        let falls = print_tally("surveys with exact halves at a fall", &self.falls);
+        refusals && misses && caps && rises && halves && falls
     }
 }
 
@@ -64,8 +86,15 @@ pub fn compare(seed: u64, cases: u64, folder: &Path, tried: &mut Tried) -> u64 {
     for number in 0..cases {
         let case = case(seed, number);
         let ours = outcome(&case, calls::table);
-        let reference = outcome(&case, by_reference);
-        tried.add(&case.survey, reference.answer);
+        let tank = lay_out(&case.survey, Format::TODAY, case.table_len);
+        let made = tank.as_ref().map_err(|&refusal| refusal);
+        let made = made.and_then(table_of_tank);
+        tried.add(
+            &case.survey,
+            tank.as_ref().ok(),
+            made.as_ref().err().copied(),
+        );
+        let reference = outcome(&case, |_, table| by_reference(made, table));
         if ours != reference {
             mismatches += 1;
             report(seed, number, &ours, &reference);
@@ -81,7 +110,7 @@ pub fn keep(folder: &Path, name: &str, survey: &[u8]) {
     std::fs::write(folder.join(name), survey).expect("a survey can be written");
 }
 
-fn outcome(case: &Case, make: impl Fn(&[u8], &mut [u32]) -> TableAnswer) -> Outcome {
+fn outcome(case: &Case, make: impl FnOnce(&[u8], &mut [u32]) -> TableAnswer) -> Outcome {
     let mut memory = cells(case.table_len + 2 * AROUND);
     let lent = &mut memory[AROUND..AROUND + case.table_len];
     let answer = make(&case.survey, lent);
@@ -93,8 +122,8 @@ pub fn cells(count: usize) -> Vec<u32> {
     (0..count).map(|index| 0xa500_0000 + index as u32).collect()
 }
 
-fn by_reference(survey: &[u8], table: &mut [u32]) -> TableAnswer {
-    let answer = fill_table(survey, table);
+fn by_reference(made: Result<Table, Refusal>, table: &mut [u32]) -> TableAnswer {
+    let answer = fill(made, table);
     TableAnswer {
         refusal: answer.number,
         place: answer.place,

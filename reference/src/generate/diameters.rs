@@ -3,9 +3,9 @@
 
 use super::plan::Plan;
 use super::{seams, sound};
+use crate::dimensions::end_outer_diameter;
 use crate::format::Format;
 use crate::limits::{CIRCUMFERENCE, DIAMETER};
-use crate::numbers::nearest;
 use crate::random::Random;
 use crate::survey::Course;
 
@@ -35,10 +35,10 @@ pub fn courses_of_outer(random: &mut Random, courses: &mut [Course], outer: u32)
 
 /// One of the sums that give the outer diameter; the smallest and the largest
 /// such sum are as likely as any other.
-fn sum_of_outer(random: &mut Random, outer: u32) -> u32 {
-    let middle = nearest(710 * u128::from(outer), 113) as u32;
+pub fn sum_of_outer(random: &mut Random, outer: u32) -> u32 {
+    let middle = (u64::from(outer) * 710 / 113) as u32;
     let sums: Vec<u32> = (middle - 5..=middle + 5)
-        .filter(|&sum| nearest(113 * u128::from(sum), 710) == u128::from(outer))
+        .filter(|&sum| end_outer_diameter(sum, 0) == i64::from(outer))
         .collect();
     random
         .pick(&sums)
@@ -46,7 +46,7 @@ fn sum_of_outer(random: &mut Random, outer: u32) -> u32 {
 }
 
 /// Parts a sum into two circumferences: even, at a limit, or anyhow.
-fn split(random: &mut Random, sum: u32) -> (u32, u32) {
+pub fn split(random: &mut Random, sum: u32) -> (u32, u32) {
     let least = CIRCUMFERENCE
         .low
         .max(sum.saturating_sub(CIRCUMFERENCE.high));
@@ -92,7 +92,7 @@ fn from_dh(random: &mut Random, difference: i32) -> (u32, u32) {
 
 /// A survey with exactly these diameters: every course alike and walls thin
 /// enough for the largest circumference.
-fn exact(random: &mut Random, format: Format, dh: u32, [d1, d2]: [u32; 2]) -> Plan {
+pub fn exact(random: &mut Random, format: Format, dh: u32, [d1, d2]: [u32; 2]) -> Plan {
     let mut plan = sound::with_diameters(random, format, dh, d1, d2);
     let thickness = random.between(100, 4_000);
     let (left, right) = pair_of_outer(random, d2 + 2 * thickness);

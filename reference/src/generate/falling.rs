@@ -1,5 +1,5 @@
 //! Deadwood that makes a row fall, or stay just level, at the first, an inner
-//! or the last row.
+//! or the last row; also where it hangs on which way an exact half goes.
 
 use super::plan::Plan;
 use super::sound;
@@ -15,16 +15,30 @@ use crate::survey::parse;
 /// A survey whose deadwood takes, between one row and the next, as much as the
 /// gross grows there, one more, one less, or far more; at one or two places.
 pub fn falling(random: &mut Random, format: Format) -> Plan {
+    with_items(random, format, |random, plan, grown| {
+        (0..random.between(1, 2))
+            .map(|_| item(random, plan, grown))
+            .collect()
+    })
+}
+
+/// A survey of which a row falls or not by where an exact half goes.
+pub fn at_half(random: &mut Random, format: Format) -> Plan {
+    with_items(random, format, half_items)
+}
+
+/// A sound survey with deadwood that is chosen by how much the gross grows from
+/// each row to the next.
+fn with_items(
+    random: &mut Random,
+    format: Format,
+    items: impl Fn(&mut Random, &Plan, &[u64]) -> Vec<Deadwood>,
+) -> Plan {
     let mut plan = sound::sound(random, format);
     plan.survey.deadwood.clear();
-    let grown = growth(&plan);
-    let mut items = Vec::new();
-    if let Some(grown) = grown {
-        for _ in 0..random.between(1, 2) {
-            items.push(item(random, &plan, &grown));
-        }
+    if let Some(grown) = growth(&plan) {
+        plan.survey.deadwood = items(random, &plan, &grown);
     }
-    plan.survey.deadwood = items;
     plan.layout = sound::layout(random, &plan);
     plan
 }
@@ -41,7 +55,7 @@ fn growth(plan: &Plan) -> Option<Vec<u64>> {
     Some(gross.windows(2).map(|pair| pair[1] - pair[0]).collect())
 }
 
-/// An item from one row to the next.
+/// An item over one gap.
 fn item(random: &mut Random, plan: &Plan, grown: &[u64]) -> Deadwood {
     let last = grown.len() - 1;
     let index = match random.between(1, 3) {
@@ -49,11 +63,33 @@ fn item(random: &mut Random, plan: &Plan, grown: &[u64]) -> Deadwood {
         2 => last,
         _ => random.index(0, last),
     };
-    let heights = row_heights(plan.survey.dh, plan.survey.step);
     let volume = grown[index] as i64 + random.pick(&[-1, 0, 0, 1, 1, 1, 5_000]);
+    over_gaps(plan, index, 1, volume)
+}
+
+/// Deadwood over two gaps in the lower half of the tank, where the next gap grows
+/// by more. The gross grows by g up to the row in the middle, and so much and a
+/// half is taken there: the row stays level if g is even. Or g and a + 1 more is
+/// taken and a half above a is added: the row falls if a is even.
+fn half_items(random: &mut Random, plan: &Plan, grown: &[u64]) -> Vec<Deadwood> {
+    let index = random.index(0, grown.len() / 2 - 2);
+    let g = grown[index] as i64;
+    if random.one_in(2) {
+        return vec![over_gaps(plan, index, 2, 2 * g + 1)];
+    }
+    let a = i64::from(random.between(0, 9));
+    vec![
+        over_gaps(plan, index, 1, g + a + 1),
+        over_gaps(plan, index, 2, -(2 * a + 1)),
+    ]
+}
+
+/// An item from one row to the next, or over more gaps.
+fn over_gaps(plan: &Plan, index: usize, gaps: usize, volume: i64) -> Deadwood {
+    let heights = row_heights(plan.survey.dh, plan.survey.step);
     Deadwood {
         low: heights[index],
-        high: heights[index + 1],
+        high: heights[index + gaps],
         volume: volume.min(i64::from(DEADWOOD_VOLUME)) as i32,
     }
 }

@@ -1,6 +1,7 @@
-//! Cases for the two lookups: sound tables with levels, steep rises and the
-//! largest cells, and tables that refusals 11 to 13 shut out.
+//! Cases for the two lookups: sound tables with levels, steep rises, the largest
+//! cells and exact halves, and tables that refusals 11 to 13 shut out.
 
+use super::halves;
 use crate::limits;
 use crate::lookup::{height_for_volume, litres_at_height};
 use crate::random::Random;
@@ -46,6 +47,9 @@ pub fn lookup_case(seed: u64, number: u64) -> LookupCase {
         asked: Asked::Litres(0),
     };
     case.asked = asked(random, &case);
+    if random.one_in(3) {
+        halves::lookups::ask(random, &mut case);
+    }
     if random.one_in(4) {
         damage(random, &mut case);
     }

@@ -1,7 +1,8 @@
-//! Seams of sound courses, and surveys at the edges of request E4: terms that
-//! are exact, no rise at all, and corrected readings at their smallest and below
-//! it.
+//! Seams of sound courses, and surveys at the edges of request E4: a first term
+//! that is an exact half, a second that is an exact root, no rise at all, and
+//! corrected readings at their smallest and below it.
 
+use super::halves::factor_of_half;
 use super::plan::Plan;
 use super::sound::{self, in_limits};
 use crate::format::Format;
@@ -77,11 +78,10 @@ pub fn onto_readings(courses: &mut [Course], seams: &mut [Seams], dh: u32) {
 /// A survey at an edge: one that all its courses share, or a corrected reading
 /// of one of them at its smallest or below it.
 pub fn at_edges(random: &mut Random) -> Plan {
-    match random.between(1, 8) {
-        1 => rounded_half(random),
-        2 => exact_root(random),
-        3 => no_rise(random),
-        4 => alike(random, DH.low, LARGEST),
+    match random.between(1, 7) {
+        1 => exact_root(random),
+        2 => no_rise(random),
+        3 => alike(random, DH.low, LARGEST),
         _ => smallest_reading(random),
     }
 }
@@ -89,18 +89,20 @@ pub fn at_edges(random: &mut Random) -> Plan {
 /// A small DH, so that its table is quickly made.
 const SMALL_DH: u32 = 60_000;
 
-/// 2Ntw/d is a whole number and a half: with d = 400k and Nt = 100 it is
-/// w/(2k), and w is an odd multiple of k.
-fn rounded_half(random: &mut Random) -> Plan {
-    let k = random.between(DH.low / 400, SMALL_DH / 400);
-    let number = random.pick(&[1, 2, 4, 5, 10]);
-    let halves = random.between(0, (SEAM_WIDTH.high / k - 1) / 2);
-    let seams = Seams {
-        number,
-        thickness: 100 / number,
-        width: k * (2 * halves + 1),
-    };
-    alike(random, 400 * k, seams)
+/// 2Ntw/d is an exact half: with d a multiple of 400 there is a width for that,
+/// often for some number and thickness.
+pub fn half_first_term(random: &mut Random) -> Plan {
+    loop {
+        let dh = 400 * random.between(DH.low / 400, SMALL_DH / 400);
+        let narrow = Seams {
+            number: random.between(1, SEAM_NUMBER.high),
+            thickness: 10 * random.between(1, SEAM_THICKNESS.high / 10),
+            width: 1,
+        };
+        if let Some(width) = factor_of_half(random, narrow.first_quotient(dh), SEAM_WIDTH) {
+            return alike(random, dh, Seams { width, ..narrow });
+        }
+    }
 }
 
 /// 64N²t³/(9d) is a whole square: with d = tq² it is that of 8Nt/(3q).

@@ -41,8 +41,7 @@ pub fn wild_deadwood(random: &mut Random, format: Format) -> Plan {
 pub fn most_records(random: &mut Random, format: Format) -> Plan {
     let dh = random.between(limits::DH.low, 60_000);
     let most = limits::COURSE_COUNT.high;
-    let seams = |random: &mut Random, courses| seams::sound(random, format, courses);
-    let mut plan = planned(random, format, dh, [dh; 2], most, seams);
+    let mut plan = with_courses(random, format, dh, [dh; 2], most);
     let count = limits::DEADWOOD_COUNT.high as usize;
     plan.survey.deadwood = gentle_deadwood(random, &plan, count);
     plan.layout = layout(random, &plan);
@@ -53,8 +52,19 @@ pub fn most_records(random: &mut Random, format: Format) -> Plan {
 /// circumferences' limits allow.
 pub fn with_diameters(random: &mut Random, format: Format, dh: u32, d1: u32, d2: u32) -> Plan {
     let count = course_count(random);
+    with_courses(random, format, dh, [d1, d2], count)
+}
+
+/// The same with so many courses.
+pub fn with_courses(
+    random: &mut Random,
+    format: Format,
+    dh: u32,
+    diameters: [u32; 2],
+    count: u32,
+) -> Plan {
     let seams = |random: &mut Random, courses| seams::sound(random, format, courses);
-    planned(random, format, dh, [d1, d2], count, seams)
+    planned(random, format, dh, diameters, count, seams)
 }
 
 /// The same in today's format with these seams, for a number of courses.
@@ -132,7 +142,7 @@ fn dip_diameter(random: &mut Random) -> u32 {
 }
 
 /// A diameter inside its limits and at most 10,000 from DH.
-fn near_diameter(random: &mut Random, dh: u32) -> u32 {
+pub fn near_diameter(random: &mut Random, dh: u32) -> u32 {
     let low = (dh - 10_000).max(limits::DIAMETER.low);
     let high = (dh + 10_000).min(limits::DIAMETER.high);
     match random.between(1, 10) {
@@ -206,7 +216,7 @@ fn gentle_deadwood(random: &mut Random, plan: &Plan, count: usize) -> Vec<Deadwo
     (0..count)
         .map(|_| match random.between(1, 3) {
             1 => added_room(random, plan.survey.dh),
-            _ => small_item(random, plan, count as u64),
+            _ => small_item(random, plan, count as u32),
         })
         .collect()
 }
@@ -217,18 +227,24 @@ fn added_room(random: &mut Random, dh: u32) -> Deadwood {
     item
 }
 
-fn small_item(random: &mut Random, plan: &Plan, count: u64) -> Deadwood {
+fn small_item(random: &mut Random, plan: &Plan, count: u32) -> Deadwood {
     let low = random.between(plan.survey.dh / 8, plan.survey.dh / 2);
     let high = random.between(low + plan.survey.dh / 4, plan.survey.dh / 8 * 7);
-    // Half the diameter times the length is less than the shell's section.
-    let band = u64::from(plan.survey.dh / 2) * u64::from(plan.survey.l1) * u64::from(high - low);
-    let most = band / 10_000_000_000 / (2 * count);
-    let most = most.clamp(1, limits::DEADWOOD_VOLUME as u64) as u32;
+    let most = small_volume(plan, high - low, count);
     Deadwood {
         low: DipHeight(low),
         high: DipHeight(high),
         volume: random.between(0, most) as i32,
     }
+}
+
+/// The most that each of so many items may take from a band in the middle of the
+/// tank so as to be small beside the shell there. Half the diameter times the
+/// length is less than the shell's section.
+pub fn small_volume(plan: &Plan, height: u32, count: u32) -> u32 {
+    let band = u64::from(plan.survey.dh / 2) * u64::from(plan.survey.l1) * u64::from(height);
+    let most = band / 10_000_000_000 / (2 * u64::from(count));
+    most.clamp(1, limits::DEADWOOD_VOLUME as u64) as u32
 }
 
 fn wild_item(random: &mut Random, dh: u32) -> Deadwood {
