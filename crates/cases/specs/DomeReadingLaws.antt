@@ -72,6 +72,9 @@ domeReadings =
     ∷ (headsTolerance SphericalCap 6000 2000 2555 reads 13982667000)
     ∷ (headsVolume SphericalCap 6000 3000 6000 reads 11)
     ∷ (headsTolerance SphericalCap 6000 3000 6000 reads 21311520000)
+    -- exact halves (E5): F + C is 245,000,000,000 cubic u, 24.5 v, and 195,000,000,000, 19.5 v
+    ∷ (headsVolume SphericalCap 85800 100 37700 reads 24)
+    ∷ (headsVolume SphericalCap 103200 100 29200 reads 20)
     ∷ []
 
 pub dome-readings-hold : Holds domeReadings

@@ -1,6 +1,6 @@
 -- Document 02, E5: exact halves of everything that is rounded, down to the even number and up to it, worked out by hand from the paper's formulas,
--- and the proof that each line holds, which is a computation. Those of the tape rise and of the litres between rows stand in the rooms
--- `seams` and `lookup`, in `ExampleLaws`. Assumes nothing.
+-- and the proof that each line holds, which is a computation. Those of spherical caps stand in `DomeReadingLaws`, those of the tape rise and of
+-- the litres between rows in the rooms `seams` and `lookup`, in `ExampleLaws`. Assumes nothing.
 use Prim.Native.Nat.{_*_}
 use mathlib.Core.Path.{refl}
 use mathlib.Core.List.{List, [], _∷_}
