@@ -62,8 +62,8 @@ extern "C" {
  *       exceeds D2                                               0
  *   8   the lent table is shorter than the row count             0
  *   9   a row is below the row before                            its index
- *  10   a row is below zero: cannot occur, since row 0 never is
- *       and a later row would be below the row before            its index
+ *  10   retired, and given to no other fault: it was for a row
+ *       below zero, but such a row, or one before it, gets 9
  *  11   lookup: DH is not 50,000 to 500,000, the step not 100
  *       to 10,000, the table has not exactly the row count, or
  *       a row is below the row before                            0

@@ -1,6 +1,6 @@
 //! A second, independent program for dip tables of level, round tanks.
 //!
-//! It is written from the scope paper and requests E1, E2, E4 and E5 of the paper
+//! It is written from the scope paper and requests E1, E2 and E4 to E6 of the paper
 //! on later changes alone, and aims at being easy to compare with them, sentence by
 //! sentence. Sentences in quotation marks are taken from the papers. What the
 //! programs print beside that, and their sentences for refusals, are those of
@@ -9,6 +9,7 @@
 //! Lengths are whole numbers of u = 0.01 mm, volumes whole numbers of
 //! v = 0.01 L; "One v is 10^10 cubic u".
 
+pub mod below_zero;
 pub mod big;
 pub mod bytes;
 pub mod caps;

@@ -12,7 +12,7 @@ pub fn refuse(number: u32) -> Refusal {
     Refusal { number, place: 0 }
 }
 
-/// A refusal with a place: a byte offset (5) or a row index (9, 10).
+/// A refusal with a place: a byte offset (5) or a row index (9).
 pub fn refuse_at(number: u32, place: usize) -> Refusal {
     Refusal {
         number,

@@ -1,5 +1,5 @@
 //! Making a table from a survey, in two steps: a tank is laid out from it (refusals
-//! 1 to 8 and 14), then rows are made of the tank (9 and 10).
+//! 1 to 8 and 14), then rows are made of the tank (9).
 
 use crate::deadwood::all_shares;
 use crate::dimensions::dimensions;
@@ -54,10 +54,16 @@ pub fn lay_out(survey: &[u8], format: Format, table_len: usize) -> Result<Tank, 
     Ok(Tank::new(&survey, dimensions))
 }
 
-/// The table of a tank, if its rows are sound.
+/// The table of a tank, if no row falls.
+///
+/// "Refusals: 10 is retired" (E6): "row 0 has nothing deducted, and a later row
+/// below zero would have fallen and been refused as 9".
 pub fn table_of_tank(tank: &Tank) -> Result<Table, Refusal> {
     let net = net_rows(tank);
-    check_net_rows(&net)?;
+    // Refusal 9: "a net row below the row before".
+    if let Some(index) = first_fall(&net) {
+        return Err(refuse_at(9, index));
+    }
 
     // "Its cells are unsigned 32-bit numbers of v; every accepted net row fits."
     let rows = net
@@ -80,27 +86,9 @@ pub fn net_rows(tank: &Tank) -> Vec<i64> {
         .collect()
 }
 
-/// Refusals 9 and 10, in this order: a fall is looked for in the whole table
-/// before any row below zero is.
-///
-/// Refusal 10 cannot come out of a survey. At dip height 0 every item's low
-/// height is at or above the dip height (heights are unsigned), so every share
-/// there is 0 and row 0 is the gross, which is not below zero. Rows that do
-/// not fall are then all at or above row 0; rows that do fall are refusal 9.
-pub fn check_net_rows(net: &[i64]) -> Result<(), Refusal> {
-    // Refusal 9: "a net row below the row before".
-    for index in 1..net.len() {
-        if net[index] < net[index - 1] {
-            return Err(refuse_at(9, index));
-        }
-    }
-    // Refusal 10: "a net row below zero".
-    for (index, &row) in net.iter().enumerate() {
-        if row < 0 {
-            return Err(refuse_at(10, index));
-        }
-    }
-    Ok(())
+/// The index of the first row below the row before.
+pub fn first_fall(net: &[i64]) -> Option<usize> {
+    (1..net.len()).find(|&index| net[index] < net[index - 1])
 }
 
 /// The same with lent memory.

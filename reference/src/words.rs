@@ -17,8 +17,7 @@ use crate::survey::{accepted_sums, parse, parse_numbers, sum_of_lengths, Survey}
 use crate::text::with_commas;
 
 /// The sentence for a survey file of a format and the refusal that it meets.
-/// Refusal 8 depends on the lent table and refusal 10 comes out of no survey:
-/// neither has a sentence.
+/// Refusal 8 depends on the lent table and has none.
 pub fn of_survey(file: &[u8], format: Format, refusal: Refusal) -> Option<String> {
     let place = refusal.place as usize;
     let survey = || parse(file, format).ok();

@@ -64,7 +64,7 @@ fn answers_and_lent_memory() {
             }
         }
     }
-    // The generator reaches every refusal but 10, which no survey reaches.
+    // The generator reaches every refusal; 10 is retired.
     for number in (0..=9).chain([14]) {
         assert!(seen[number] > 50, "{seen:?}");
     }

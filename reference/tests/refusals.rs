@@ -33,6 +33,7 @@ in_either_format! {
     seven_diameters,
     fourteen_long_caps,
     nine_a_row_that_falls,
+    nine_for_a_row_below_zero,
     tested_in_this_order,
 }
 
@@ -587,14 +588,24 @@ fn nine_a_row_that_falls(paper: Paper) {
     assert_eq!(paper.refused(&paper.with_deadwood(&two)), (9, 3));
 }
 
-#[test]
-fn nine_before_ten() {
-    use reference::table::check_net_rows;
-    let outcome = |net: &[i64]| told(check_net_rows(net));
-    assert_eq!(outcome(&[0, 0, 1]), (0, 0));
-    assert_eq!(outcome(&[-1, 0, 1]), (10, 0));
-    assert_eq!(outcome(&[-1, 5, 4]), (9, 2));
-    assert_eq!(outcome(&[0, -5, -6]), (9, 1));
+/// "10 is retired": a row below zero has fallen, or one before it has.
+fn nine_for_a_row_below_zero(paper: Paper) {
+    // The rows are 0, 2796, 7334, 12301, 16839, 19635 less the items.
+    let cases: [(&[(u32, u32, i32)], _); 4] = [
+        // Row 1 is -1; row 1 is -2,204, and no other is less; row 5 is -1.
+        (&[(0, 10_000, 2_797)], (9, 1)),
+        (&[(0, 10_000, 5_000), (10_000, 20_000, -5_000)], (9, 1)),
+        (&[(40_000, 50_000, 19_636)], (9, 5)),
+        // Row 4 is -461, and row 3, 1, is below row 2.
+        (&[(20_000, 30_000, 12_300), (30_000, 40_000, 5_000)], (9, 3)),
+    ];
+    for (items, wanted) in cases {
+        assert_eq!(
+            paper.refused(&paper.with_deadwood(items)),
+            wanted,
+            "{items:?}"
+        );
+    }
 }
 
 /// A survey with every fault at once; the faults are mended one by one. The

@@ -133,7 +133,7 @@ static void accepted_surveys(void)
           "deadwood takes its share from the rows");
 
     with_deadwood(survey, 0, 10000, 5000);
-    refused(survey, ITEM_BYTES, 9, 1, "deadwood larger than the first rows: refusal 9 at row 1");
+    refused(survey, ITEM_BYTES, 9, 1, "deadwood that takes row 1 below zero: refusal 9 at row 1");
 }
 
 static void refused_surveys(void)

@@ -61,6 +61,7 @@ void words_checks(void)
           "refusal 14 of a survey that gets an earlier one");
     check(says(milechime_words(NULL, 0, 1, 0), "file of 0 bytes: must have 56 to 65536"), "no survey at all");
     check(says(milechime_words(survey, PAPER_BYTES, 8, 0), "lent table: must have a cell for each row"), "a lent table that is too short");
+    check(says(milechime_words(survey, PAPER_BYTES, 10, 1), "refusal 10 at place 1: not one of this survey's"), "refusal 10, which is retired");
     check(says(milechime_words(survey, PAPER_BYTES, 5, 6), "refusal 5 at place 6: not one of this survey's"), "a place that no number has");
     check(says(milechime_words(survey, PAPER_BYTES, UINT32_MAX, UINT32_MAX),
                "refusal 4294967295 at place 4294967295: not one of this survey's"), "the largest numbers");

@@ -39,14 +39,14 @@ module _ (dh step : ℕ) (table : List ℕ) where
       → OnTableAnswered dh step table h (litresNumbers (litresAnswer dh step table h))
   unfolding litresAnswer
   on-table-answered h told e =
-      let passed = litres-answered dh step table h e in
+      let passed = litres-answered 0 refl dh step table h e in
       rw passed (rw passed at told)
 
   pub lowest-answered : (w : ℕ) → Reached dh step table w (heightAnswer dh step table w)
       → LowestAnswered dh step table w (heightNumbers (heightAnswer dh step table w))
   unfolding heightAnswer
   lowest-answered w told e =
-      let passed = height-answered dh step table w e in
+      let passed = height-answered 0 refl dh step table w e in
       rw passed (rw passed at told)
 
   -- refusals 12 and 13 by their numbers alone
@@ -72,7 +72,7 @@ module _ (dh step : ℕ) (table : List ℕ) where
 
 pub converted-keeps : (s : List ℕ) → Keeps s (converted s) → ConvertedKeeps s (convertedNumbers (converted s))
 converted-keeps s told e =
-    let passed = convert-answered s e in
+    let passed = convert-answered 0 refl s e in
     rw passed (told passed)
 
 pub numbers-short : (w : Verdict) (n : ℕ) (file : List ℕ) → n ≤ mostBytes → fileNumbers w n file .length ≤ mostBytes

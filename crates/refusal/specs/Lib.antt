@@ -1,4 +1,5 @@
 -- Ordered tests, and the first that fails.
 pub mod Test
 pub mod TestLaws
+pub mod EachLaws
 pub mod NumberLaws

@@ -1,45 +1,52 @@
--- Refusal 0 is no refusal: where every test of a list has a number above 0, whoever passes on a refusal's number and gives 0 met
--- none. Assumes nothing.
-use Prim.Native.Nat.{ℕ, zero, suc, _<_}
-use mathlib.Core.Path.{_≡_, refl}
-use mathlib.Core.Bool.{Bool, true, false, _&&_}
-use mathlib.Core.List.{List, [], _∷_, _++_}
-use native.Mathlib.Omega.{arith}
-use borrow.Author.Tests.{ltb-true}
-use lib.Dec.{ltb}
-use Rattle.laws.specs.Order.{pick}
-use Rattle.laws.specs.BoolLaws.{both-pass}
+-- The numbers of refusals. Where every test of a list has a number in use, so has the refusal that it gives: never 0, so whoever passes on a
+-- refusal's number and gives 0 met none, and never 10, which is retired. Assumes nothing.
+use Prim.Native.Nat.{ℕ}
+use mathlib.Core.Path.{_≡_, refl, sym, _∙_, ap}
+use mathlib.Core.Bool.{Bool, true, false, _&&_, _||_}
+use mathlib.Core.List.{List, [], _∷_}
+use Rattle.laws.specs.BoolLaws.{true-not-false, both-pass}
 use Rattle.refusal.specs.declared.Refusal.{Refusal}
 use Rattle.refusal.specs.declared.Verdict.{Verdict}
 use Rattle.refusal.specs.declared.Verdict.the-variants.{Passed, Refused}
-use Rattle.refusal.specs.Test.{Test, refusal, verdict, items}
+use Rattle.refusal.specs.Test.{Test, verdict, within, firstRefusal}
+use Rattle.refusal.specs.EachLaws.{Each, refused-each}
 
--- every test of a list has a number above 0
-abbrev pub numbered : List Test → Bool
-numbered [] = true
-numbered (t ∷ ts) = ltb 0 (t .number) && numbered ts
+-- the numbers that faults have: 1 to 14 but for 10, which is retired and goes to no other fault (document 02, E6)
+abbrev pub inUse : ℕ → Bool
+inUse n = within 1 n 9 || within 11 n 14
 
-pub numbered-append : (ts us : List Test) → numbered ts ≡ true → numbered us ≡ true → numbered (ts ++ us) ≡ true
-numbered-append [] us m n = n
-numbered-append (t ∷ ts) us m n =
-    let both = both-pass (ltb 0 (t .number)) (numbered ts) m in
-    rw (both .0) (numbered-append ts us (both .1) n)
+-- a refusal has such a number ..
+abbrev pub Numbered : Refusal → Type 0
+Numbered r = inUse (r .number) ≡ true
 
-pub numbered-items : (n : ℕ) (f : ℕ → List Test) → ((i : ℕ) → numbered (f i) ≡ true) → numbered (items n f) ≡ true
-unfolding items
-numbered-items zero f each = refl
-numbered-items (suc n) f each = numbered-append (items n f) (f n) (numbered-items n f each) (each n)
+-- .. and so has a verdict, if it refuses
+abbrev pub InUse : Verdict → Type 0
+InUse Passed = Unit
+InUse (Refused r) = Numbered r
 
--- `number` is what an answer made of a verdict tells: of a refusal, its number
-module _ (number : Verdict → ℕ) (passed-on : (r : Refusal) → number (Refused r) ≡ r .number) where
-  pub zero-is-passed : (ts : List Test) → numbered ts ≡ true → number (verdict ts) ≡ 0 → verdict ts ≡ Passed
-  zero-is-passed [] all e = refl
-  zero-is-passed (t ∷ ts) all e =
-      let both = both-pass (ltb 0 (t .number)) (numbered ts) all in
-      by-test (t .passes) (ltb-true 0 (t .number) (both .0)) (zero-is-passed ts (both .1)) e
-    where
-      by-test : (b : Bool) → 0 < t .number → (number (verdict ts) ≡ 0 → verdict ts ≡ Passed)
-          → number (pick b (verdict ts) (Refused (refusal (t .number) (t .place)))) ≡ 0
-          → pick b (verdict ts) (Refused (refusal (t .number) (t .place))) ≡ Passed
-      by-test true some rest e = rest e
-      by-test false some rest e = absurd (omega (arith, passed-on (refusal (t .number) (t .place))))
+-- tests whose numbers are written out: that each is in use is computed
+abbrev pub allInUse : List Test → Bool
+allInUse [] = true
+allInUse (t ∷ ts) = inUse (t .number) && allInUse ts
+
+pub each-numbered : (ts : List Test) → allInUse ts ≡ true → Each Numbered ts
+each-numbered [] all = tt
+each-numbered (t ∷ ts) all = let both = both-pass (inUse (t .number)) (allInUse ts) all in (both .0, each-numbered ts (both .1))
+
+pub verdict-in-use : (ts : List Test) → Each Numbered ts → InUse (verdict ts)
+verdict-in-use ts each = by-verdict (verdict ts) refl
+  where
+    by-verdict : (v : Verdict) → verdict ts ≡ v → InUse v
+    by-verdict Passed e = tt
+    by-verdict (Refused r) e = refused-each Numbered ts each r e
+
+pub first-in-use : (v w : Verdict) → InUse v → InUse w → InUse (firstRefusal v w)
+first-in-use Passed w p q = q
+first-in-use (Refused r) w p q = p
+
+-- `number` is what an answer made of a verdict tells: of a refusal, its number. So a number that is not in use tells that nothing was refused
+pub unused-is-passed : (number : Verdict → ℕ) → ((r : Refusal) → number (Refused r) ≡ r .number) → (n : ℕ) → inUse n ≡ false
+    → (v : Verdict) → InUse v → number v ≡ n → v ≡ Passed
+unused-is-passed number passed-on n unused Passed p e = refl
+unused-is-passed number passed-on n unused (Refused r) p e =
+    absurd (true-not-false (sym p ∙ ap inUse (sym (passed-on r) ∙ e) ∙ unused))

@@ -33,7 +33,7 @@ use Rattle.survey.specs.Section.{courses, deadwood, seams, sections, sea
 use Rattle.survey.specs.Reading.{riseOf, corrected}
 use Rattle.survey.specs.Dimensions.{sumsOf, allowance, d1, d2, diameterFits}
 use Rattle.survey.specs.Sentence.{ofCourses, ofDeadwood, ofSeams, ofSize, ofLargeFile, ofOverlap, ofSeamsOverCourses, ofSeamsOverDeadwood, ofCorrected}
-use Rattle.survey.specs.Sentence.{ofLengths, ofShellDiameter, ofHeadDiameter, ofHeadLength, ofLentTable, ofFallingRow, ofRowBelowZero, ofUnknown}
+use Rattle.survey.specs.Sentence.{ofLengths, ofShellDiameter, ofHeadDiameter, ofHeadLength, ofLentTable, ofFallingRow, ofUnknown}
 use Rattle.survey.specs.Tests.{layoutTests, limitTests, correctedTests}
 
 abbrev pub faultWith : (sentence item value low high : ℕ) → Fault
@@ -257,9 +257,9 @@ dimensionFault f s number place =
     (headLengthFault f s)))
     (unknown number place)
 
--- refusals 9 and 10: a row, and its height
-unfoldable pub rowFault : List ℕ → (sentence row : ℕ) → Fault
-rowFault s sentence row = faultWith sentence row (rowHeight (word s dhAt) (word s stepAt) row) 0 0
+-- refusal 9: a row, and its height
+unfoldable pub rowFault : List ℕ → (row : ℕ) → Fault
+rowFault s row = faultWith ofFallingRow row (rowHeight (word s dhAt) (word s stepAt) row) 0 0
 
 -- what a list has for a number, else the other
 abbrev pub listed : ℕ → Fault → List (ℕ × Fault) → Fault
@@ -278,8 +278,7 @@ headedFault f s number place =
     ∷ (7, dimensionFault f s 7 place)
     ∷ (14, dimensionFault f s 14 place)
     ∷ (8, faultWith ofLentTable 0 0 0 0)
-    ∷ (9, rowFault s ofFallingRow place)
-    ∷ (10, rowFault s ofRowBelowZero place)
+    ∷ (9, rowFault s place)
     ∷ [])
 
 -- of a file in a format

@@ -79,11 +79,11 @@ pub changed-words : About (file 49999 1 72 160221 100000 400 5) 5 4 (faultWith 1
 unfolding rowsOf nearest root rootOf items kindKnown kindOf lengthFits firstTerm secondTerm tapeRise word signedWord placed apart riseOf sumOf sumsOver lengthsFit outerDiameter wall shellDiameter headDiameter diameterFits layoutTests headerTests courseTests itemTests seamTests readingTests dimensionTests fileTests decoded headerLimits headerFault countFault placeFault courseFault volumeFault itemFault seamFault fieldFault limitFault readingFault limitsPass numberFault numbersPass lengthsFault diameterFault headLengthFault dimensionFault headedFault faultAs faultOf
 changed-words = ((refl, refl), (refl, refl), (refl, refl), (refl, refl), (refl, refl), (refl, refl), (refl, refl), (refl, refl), (refl, refl), (refl, refl), (refl, refl), (refl, refl), (refl, refl), (refl, refl), (refl, refl), (refl, refl), (refl, refl), (refl, refl), (refl, refl))
 
--- a file without bytes; and a refusal of no survey, whatever the file
+-- a file without bytes; and refusals of no survey, whatever the file: a lookup's, and 10, which is retired
 pub no-bytes : About [] 1 0 (faultWith 24 0 0 56 65536)
 unfolding fileTests decoded sizeFault faultAs faultOf
 no-bytes = (refl, refl)
 
-pub not-a-refusal : faultOf (file 50000 1 72 160221 100000 400 5) 11 7 ≡ unknown 11 7
+pub not-a-refusal : (faultOf (file 50000 1 72 160221 100000 400 5) 11 7 ≡ unknown 11 7) × (faultOf (file 50000 1 72 160221 100000 400 5) 10 1 ≡ unknown 10 1)
 unfolding headedFault faultAs faultOf
-not-a-refusal = refl
+not-a-refusal = (refl, refl)

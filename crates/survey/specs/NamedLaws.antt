@@ -1,5 +1,5 @@
 -- Every refusal that a file gets has a sentence of its own: none is said to be not one of this survey's. Assumes nothing.
-use Prim.Native.Nat.{ℕ, zero, suc, _+_, _*_, _≤_, _<_}
+use Prim.Native.Nat.{ℕ, _+_, _*_, _≤_, _<_}
 use mathlib.Core.Path.{_≡_, refl, sym, _∙_, ap}
 use mathlib.Core.Bool.{Bool, true, false}
 use mathlib.Core.List.{List, [], _∷_, _++_, List·Memᴰ, List·Memᴰ·head, List·Memᴰ·tail}
@@ -7,13 +7,13 @@ use native.Mathlib.Omega.{arith}
 use borrow.Author.Tests.{leb-true, le-leb}
 use lib.Dec.{leb}
 use lib.ListN.{length}
-use Rattle.laws.specs.Order.{pick}
 use Rattle.laws.specs.BoolLaws.{by-test}
 use Rattle.refusal.specs.declared.Refusal.{Refusal}
 use Rattle.refusal.specs.declared.Verdict.{Verdict}
 use Rattle.refusal.specs.declared.Verdict.the-variants.{Passed, Refused}
-use Rattle.refusal.specs.Test.{Test, test, refusal, verdict, items, within, firstRefusal}
+use Rattle.refusal.specs.Test.{Test, test, refusal, verdict, within, firstRefusal}
 use Rattle.refusal.specs.TestLaws.{verdict-append, passed-all, passed-append, within-pass}
+use Rattle.refusal.specs.EachLaws.{Each, each-append, each-item, refused-each}
 use Rattle.heads.specs.Kind.{kindKnown}
 use Rattle.survey.specs.declared.fault.Fault.{Fault}
 use Rattle.survey.specs.declared.format.Format.{Format}
@@ -37,29 +37,6 @@ use Rattle.survey.specs.SectionLaws.{Readable}
 use Rattle.survey.specs.SurveyLaws.{today-readable}
 use Rattle.survey.specs.NumberedLaws.{decoded-verdict}
 use Rattle.survey.specs.FaultLaws.{words-end, ofRecords, every-header-word-named, every-record-word-named, every-corrected-reading-named}
-
--- what holds of the refusal of each test of a list holds of its verdict's
-module _ (P : Refusal → Type 0) where
-  abbrev Each : List Test → Type 0
-  Each [] = Unit
-  Each (t ∷ ts) = P (refusal (t .number) (t .place)) × Each ts
-
-  each-append : (ts us : List Test) → Each ts → Each us → Each (ts ++ us)
-  each-append [] us p q = q
-  each-append (t ∷ ts) us p q = (p .0, each-append ts us (p .1) q)
-
-  each-item : (n : ℕ) (g : ℕ → List Test) → ((i : ℕ) → i < n → Each (g i)) → Each (items n g)
-  unfolding items
-  each-item zero g each = tt
-  each-item (suc n) g each = each-append (items n g) (g n) (each-item n g (λ i l. each i (omega arith))) (each n (omega arith))
-
-  refused-each : (ts : List Test) → Each ts → (r : Refusal) → verdict ts ≡ Refused r → P r
-  refused-each [] p r e = absurd (let z : _≡_ {A = ℕ} 0 1 = cc in omega arith)
-  refused-each (t ∷ ts) p r e = by-pass (t .passes) (refused-each ts (p .1) r) e
-    where
-      by-pass : (b : Bool) → (verdict ts ≡ Refused r → P r) → pick b (verdict ts) (Refused (refusal (t .number) (t .place))) ≡ Refused r → P r
-      by-pass true rest e = rest e
-      by-pass false rest e = let same : refusal (t .number) (t .place) ≡ r = cc in rw (← same) (p .0)
 
 -- a refusal comes from the first of two lists, or that passes and it comes from the second
 refused-append : {A : Type 0} (ts us : List Test) (r : Refusal) → verdict (ts ++ us) ≡ Refused r

@@ -1,12 +1,12 @@
--- Every test of a file has a number above 0, so a verdict's number alone tells whether the file was refused. Assumes nothing.
+-- Every refusal of a file has a number in use. Assumes nothing.
 use Prim.Native.Nat.{ℕ}
 use mathlib.Core.Path.{_≡_, refl}
-use mathlib.Core.Bool.{true}
 use mathlib.Core.List.{List, [], _∷_, _++_}
 use Rattle.refusal.specs.declared.Verdict.{Verdict}
 use Rattle.refusal.specs.declared.Verdict.the-variants.{Passed, Refused}
-use Rattle.refusal.specs.Test.{Test, verdict}
-use Rattle.refusal.specs.NumberLaws.{numbered, numbered-append, numbered-items}
+use Rattle.refusal.specs.Test.{verdict}
+use Rattle.refusal.specs.EachLaws.{Each, each-append, each-item}
+use Rattle.refusal.specs.NumberLaws.{Numbered, InUse, each-numbered, verdict-in-use}
 use Rattle.survey.specs.declared.format.Format.{Format}
 use Rattle.survey.specs.declared.section.Section.{Section}
 use Rattle.survey.specs.declared.section.Records.{Records}
@@ -19,44 +19,45 @@ use Rattle.survey.specs.Tests.{layoutTests, headerTests, courseTests, it
 use Rattle.survey.specs.Tests.{limitTests, correctedTests, numberTests, dimensionTests, fileTests}
 use Rattle.survey.specs.Survey.{surveyOf, decodedBy, decodedAs, decoded}
 
-record-numbered : (records : Records) (s : List ℕ) (at : ℕ) → numbered (recordTests records s at) ≡ true
+record-numbered : (records : Records) (s : List ℕ) (at : ℕ) → Each Numbered (recordTests records s at)
 unfolding courseTests itemTests seamTests
-record-numbered Courses s at = refl
-record-numbered Deadwood s at = refl
-record-numbered Seams s at = refl
+record-numbered Courses s at = each-numbered (courseTests s at) refl
+record-numbered Deadwood s at = each-numbered (itemTests s at) refl
+record-numbered Seams s at = each-numbered (seamTests s at) refl
 
-sections-numbered : (s : List ℕ) (xs : List Section) → numbered (sectionsTests s xs) ≡ true
-sections-numbered s [] = refl
+sections-numbered : (s : List ℕ) (xs : List Section) → Each Numbered (sectionsTests s xs)
+sections-numbered s [] = tt
 sections-numbered s (x ∷ xs) =
-    numbered-append (sectionTests s x) (sectionsTests s xs)
-    (numbered-items (x .count) (λ i. recordTests (x .records) s (recordAt x i)) (λ i. record-numbered (x .records) s (recordAt x i)))
+    each-append Numbered (sectionTests s x) (sectionsTests s xs)
+    (each-item Numbered (x .count) (λ i. recordTests (x .records) s (recordAt x i)) (λ i l. record-numbered (x .records) s (recordAt x i)))
     (sections-numbered s xs)
 
-numbers-numbered : (f : Format) (s : List ℕ) → numbered (numberTests f s) ≡ true
+numbers-numbered : (f : Format) (s : List ℕ) → Each Numbered (numberTests f s)
 unfolding headerTests readingTests
 numbers-numbered f s =
-    numbered-append (limitTests f s) (correctedTests f s)
-    (numbered-append (headerTests s) (sectionsTests s (sections f s)) refl (sections-numbered s (sections f s)))
-    (numbered-items (courses f s .count) (λ i. readingTests s (recordAt (courses f s) i) (riseOf f s i)) (λ i. refl))
+    each-append Numbered (limitTests f s) (correctedTests f s)
+    (each-append Numbered (headerTests s) (sectionsTests s (sections f s)) (each-numbered (headerTests s) refl) (sections-numbered s (sections f s)))
+    (each-item Numbered (courses f s .count) (λ i. readingTests s (recordAt (courses f s) i) (riseOf f s i)) (λ i l. (refl, (refl, tt))))
 
--- the tests of a file in a format
-abbrev pub testsOf : Format → List ℕ → List Test
-testsOf f s = fileTests f s
-
-pub file-numbered : (f : Format) (s : List ℕ) → numbered (testsOf f s) ≡ true
+file-numbered : (f : Format) (s : List ℕ) → Each Numbered (fileTests f s)
 unfolding fileTests layoutTests dimensionTests
-file-numbered f s =
-    numbered-append (layoutTests f s) (numberTests f s ++ dimensionTests f s) refl
-    (numbered-append (numberTests f s) (dimensionTests f s) (numbers-numbered f s) refl)
+file-numbered f s = (
+  refl,
+  each-append Numbered (layoutTests f s) (numberTests f s ++ dimensionTests f s) (each-numbered (layoutTests f s) refl)
+      (each-append Numbered (numberTests f s) (dimensionTests f s) (numbers-numbered f s) (each-numbered (dimensionTests f s) refl)),
+)
 
 -- the verdict of decoding is that of the tests
-pub decoded-as-verdict : (f : Format) (s : List ℕ) → decodedAs f s .verdict ≡ verdict (testsOf f s)
+pub decoded-as-verdict : (f : Format) (s : List ℕ) → decodedAs f s .verdict ≡ verdict (fileTests f s)
 decoded-as-verdict f s = go (verdict (fileTests f s)) (surveyOf f s)
   where
     go : (w : Verdict) (v : Survey) → decodedBy w v .verdict ≡ w
     go Passed v = refl
     go (Refused r) v = refl
 
-pub decoded-verdict : (s : List ℕ) → decoded s .verdict ≡ verdict (testsOf today s)
+pub decoded-verdict : (s : List ℕ) → decoded s .verdict ≡ verdict (fileTests today s)
 unfolding decoded
 decoded-verdict s = decoded-as-verdict today s
+
+pub file-in-use : (f : Format) (s : List ℕ) → InUse (decodedAs f s .verdict)
+file-in-use f s = rw (decoded-as-verdict f s) (verdict-in-use (fileTests f s) (file-numbered f s))

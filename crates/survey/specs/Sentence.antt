@@ -55,20 +55,17 @@ ofHeadLength = 34
 abbrev pub ofLentTable : ℕ
 ofLentTable = 35
 
--- a row below the row before, and one below zero
+-- a row below the row before
 abbrev pub ofFallingRow : ℕ
 ofFallingRow = 36
 
-abbrev pub ofRowBelowZero : ℕ
-ofRowBelowZero = 37
-
 -- what a lookup is asked for: a dip height above the tank, a volume above the last row
 abbrev pub ofHeight : ℕ
-ofHeight = 38
+ofHeight = 37
 
 abbrev pub ofVolume : ℕ
-ofVolume = 39
+ofVolume = 38
 
 -- and last a refusal that is not a survey's
 abbrev pub ofUnknown : ℕ
-ofUnknown = 40
+ofUnknown = 39

@@ -260,17 +260,17 @@ fn dimension_fault(f: Format, s: &[u8], number: u32, place: u32) -> Fault
     head_length_fault(f, s)
 }
 
-// Refusals 9 and 10: the row's height is DH at most.
-fn row_fault(s: &[u8], sentence: u32, row: u32) -> Fault
+// Refusal 9: the row's height is DH at most.
+fn row_fault(s: &[u8], row: u32) -> Fault
     requires { ⌜ headerEnd ≤ length (now s) ⌝ }
-    ensures { λ r. ⌜ r ≡ rowFault (now (s .entry)) sentence row ⌝ }
+    ensures { λ r. ⌜ r ≡ rowFault (now (s .entry)) row ⌝ }
 {
     let height = row as u64 * word(s, layout::STEP) as u64;
     let dh = word(s, layout::DH) as u64;
     if height <= dh {
-        return fault_with(sentence, row, height, 0, 0);
+        return fault_with(sentence::OF_FALLING_ROW, row, height, 0, 0);
     }
-    fault_with(sentence, row, dh, 0, 0)
+    fault_with(sentence::OF_FALLING_ROW, row, dh, 0, 0)
 }
 
 // Every refusal but the first, of a file that has its header.
@@ -287,8 +287,7 @@ fn headed_fault(f: Format, s: &[u8], number: u32, place: u32) -> Fault
         7 => dimension_fault(f, s, 7, place),
         14 => dimension_fault(f, s, 14, place),
         8 => fault_with(sentence::OF_LENT_TABLE, 0, 0, 0, 0),
-        9 => row_fault(s, sentence::OF_FALLING_ROW, place),
-        10 => row_fault(s, sentence::OF_ROW_BELOW_ZERO, place),
+        9 => row_fault(s, place),
         _ => unknown(number, place),
     }
 }

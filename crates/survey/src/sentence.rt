@@ -37,15 +37,13 @@ pub const OF_HEAD_LENGTH: u32 = 34;
 // The table that a caller lends.
 pub const OF_LENT_TABLE: u32 = 35;
 
-// A row below the row before, and one below zero.
+// A row below the row before.
 pub const OF_FALLING_ROW: u32 = 36;
 
-pub const OF_ROW_BELOW_ZERO: u32 = 37;
-
 // What a lookup is asked for: a dip height above the tank, a volume above the last row.
-pub const OF_HEIGHT: u32 = 38;
+pub const OF_HEIGHT: u32 = 37;
 
-pub const OF_VOLUME: u32 = 39;
+pub const OF_VOLUME: u32 = 38;
 
 // And last a refusal that is not a survey's.
-pub const OF_UNKNOWN: u32 = 40;
+pub const OF_UNKNOWN: u32 = 39;

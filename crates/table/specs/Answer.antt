@@ -14,7 +14,7 @@ use Rattle.table.specs.declared.make.Made.the-variants as answers
 use Rattle.table.specs.Rows.{rowsIn, cellOf}
 use Rattle.table.specs.Tests.{tableTests}
 
--- refusals 1 to 10 and 14, for a lent table of so many cells
+-- refusals 1 to 9 and 14, for a lent table of so many cells
 abbrev pub verdictOn : Decoded → ℕ → Verdict
 verdictOn file cells = firstRefusal (file .verdict) (verdict (tableTests (file .survey) cells))
 

@@ -7,7 +7,8 @@ pub mod Condition3
 pub mod RowLaws
 pub mod RowTestLaws
 pub mod AnswerLaws
-pub mod BelowZeroLaws
+pub mod RetiredLaws
+pub mod NumberedLaws
 pub mod NoDeadwoodLaws
 pub mod Condition3Laws
 pub mod PromiseLaws

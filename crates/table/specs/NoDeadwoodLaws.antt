@@ -1,4 +1,4 @@
--- A survey without deadwood: its net rows are its gross rows, so none falls below the row before and none is below zero. Where it passes
+-- A survey without deadwood: its net rows are its gross rows, so none falls below the row before. Where it passes
 -- refusals 1 to 8 and 14 it is therefore answered with a table. Assumes nothing.
 use Prim.Native.Nat.{ℕ, zero, suc, _≤_}
 use mathlib.Core.Path.{_≡_, refl, _∙_}
@@ -21,7 +21,7 @@ use Rattle.survey.specs.SurveyLaws.{SurveyLimits, WithinLimits}
 use Rattle.table.specs.declared.make.Made.{Made}
 use Rattle.table.specs.Rows.{netAt, rowsIn, heightOf, netRow}
 use Rattle.table.specs.Tests.{keepsUp, fallTest, tableTests}
-use Rattle.table.specs.BelowZeroLaws.{tenth-never-given}
+use Rattle.table.specs.RowTestLaws.{room-enough}
 use Rattle.table.specs.Answer.{made}
 
 pub net-is-gross : (v : Survey) → v .count ≡ 0 → (h : ℕ) → netAt v h ≡ pos (grossAt (v .tank) h)
@@ -40,7 +40,7 @@ module _ (v : Survey) (limits : SurveyLimits v) (no-items : v .count ≡ 0) wher
   none-fall = all-passed (rowsIn v) (fallTest (netRow v)) (λ i l. rw (keeps-up i))
 
   pub no-deadwood-passed : (cells : ℕ) → rowsIn v ≤ cells → verdict (tableTests v cells) ≡ Passed
-  no-deadwood-passed cells room = tenth-never-given v cells ∙ rw (le-leb (rowsIn v) cells room, none-fall)
+  no-deadwood-passed cells room = room-enough (netRow v) (rowsIn v) cells room ∙ none-fall
 
 pub no-deadwood-answered : (file : Decoded) (cells : ℕ) → WithinLimits file → file .verdict ≡ Passed → file .survey .count ≡ 0
     → rowsIn (file .survey) ≤ cells

@@ -1,20 +1,27 @@
--- The tests of a table look at nothing but the rows, have numbers above 0, and what they say where they refuse nothing. Assumes nothing.
-use Prim.Native.Nat.{ℕ, zero, suc, _-_, _<_}
-use mathlib.Core.Path.{_≡_, refl, ap, ap₂}
+-- The tests of a table look at nothing but the rows, and what they say where they refuse nothing: no row falls, and none is below zero, though
+-- none is tested for that. Assumes nothing.
+use Prim.Native.Nat.{ℕ, zero, suc, _*_, _-_, _≤_, _<_}
+use mathlib.Core.Path.{_≡_, refl, sym}
 use mathlib.Core.Bool.{true}
-use mathlib.Core.List.{List, [], _∷_, _++_}
+use mathlib.Core.List.{List, _++_}
+use native.Mathlib.Nat.{min-le-left, zero-mul}
 use native.Mathlib.Omega.{arith}
-use lib.Dec.{leb, leb·zero}
+use borrow.Author.Tests.{le-leb}
+use lib.Dec.{leb}
 use lib.IntN.{ℤ, pos, negsuc}
 use lib.Signed.{leZ, nonNeg}
 use Rattle.laws.specs.Fill.{rowsOf}
+use Rattle.laws.specs.BoolLaws.{true-not-false}
+use Rattle.measure.specs.Quantity.{diameterUnits}
 use Rattle.refusal.specs.declared.Verdict.the-variants.{Passed}
-use Rattle.refusal.specs.Test.{refusal, test, verdict, items}
-use Rattle.refusal.specs.TestLaws.{passed-pick, passed-append, passed-items, passed-all, items-agree}
-use Rattle.refusal.specs.NumberLaws.{numbered, numbered-append, numbered-items}
+use Rattle.refusal.specs.Test.{verdict, items}
+use Rattle.refusal.specs.TestLaws.{passed-pick, passed-items, passed-all, items-agree}
+use Rattle.schedule.specs.Rows.{rowHeight}
+use Rattle.deadwood.specs.ListLaws.{no-shares-at-bottom}
 use Rattle.survey.specs.declared.decode.Survey.{Survey}
-use Rattle.table.specs.Rows.{rowsIn, netRow}
-use Rattle.table.specs.Tests.{keepsUp, fallTest, belowZeroTest, rowTests, tableTests}
+use Rattle.survey.specs.Survey.{itemsIn}
+use Rattle.table.specs.Rows.{netAt, rowsIn, heightOf, netRow}
+use Rattle.table.specs.Tests.{keepsUp, fallTest, rowTests, tableTests}
 use Rattle.table.specs.RowLaws.{netOf, front-row}
 
 -- as the code tests them
@@ -22,43 +29,45 @@ pub keepsUp-before : (row : ℕ → ℤ) (i : ℕ) → (i ≡ 0 → ⊥) → kee
 keepsUp-before row zero h = absurd (h refl)
 keepsUp-before row (suc i) h = let same : suc i - 1 ≡ i = omega arith in rw same
 
-pub not-below-zero : (z : ℤ) → leZ (pos 0) z ≡ nonNeg z
-not-below-zero (pos n) = leb·zero n
-not-below-zero (negsuc n) = refl
+-- a lent table that is long enough leaves the falls ..
+pub room-enough : (row : ℕ → ℤ) (rows cells : ℕ) → rows ≤ cells → verdict (rowTests row rows cells) ≡ verdict (items rows (fallTest row))
+unfolding rowTests
+room-enough row rows cells room = rw (le-leb rows cells room)
 
--- rows that agree have the same tests
+-- .. and rows that agree have the same tests
 
 falls-agree : (n : ℕ) (row row′ : ℕ → ℤ) → ((i : ℕ) → i < n → row i ≡ row′ i) → (i : ℕ) → i < n → fallTest row i ≡ fallTest row′ i
 falls-agree n row row′ h zero l = refl
-falls-agree n row row′ h (suc i) l = ap₂ (λ y z. test 9 (suc i) (leZ y z) ∷ []) (h i (omega arith)) (h (suc i) l)
+falls-agree n row row′ h (suc i) l = rw (h i (omega arith), h (suc i) l)
 
-pub front-tests : (f : ℕ → ℤ) (n : ℕ) (rest : List ℤ) → rowTests (netOf (rowsOf f n ++ rest)) n ≡ rowTests f n
+pub front-tests : (f : ℕ → ℤ) (n : ℕ) (rest : List ℤ) (cells : ℕ) → rowTests (netOf (rowsOf f n ++ rest)) n cells ≡ rowTests f n cells
 unfolding rowTests
-front-tests f n rest =
-    let same = front-row f n rest in
-    ap₂ _++_
-    (items-agree n (fallTest (netOf (rowsOf f n ++ rest))) (fallTest f) (falls-agree n (netOf (rowsOf f n ++ rest)) f same))
-    (items-agree n (belowZeroTest (netOf (rowsOf f n ++ rest))) (belowZeroTest f) (λ i l. ap (λ z. test 10 i (nonNeg z) ∷ []) (same i l)))
+front-tests f n rest cells =
+    let row = netOf (rowsOf f n ++ rest) in
+    rw (items-agree n (fallTest row) (fallTest f) (falls-agree n row f (front-row f n rest)))
 
--- every test has a number above 0
-pub table-numbered : (v : Survey) (cells : ℕ) → numbered (tableTests v cells) ≡ true
-unfolding tableTests rowTests
-table-numbered v cells =
-    numbered-append (items (rowsIn v) (fallTest (netRow v))) _
-    (numbered-items (rowsIn v) (fallTest (netRow v)) (λ i. refl))
-    (numbered-items (rowsIn v) (belowZeroTest (netRow v)) (λ i. refl))
+-- at height 0 no deadwood item has taken anything
+row-0-not-below-zero : (v : Survey) → nonNeg (netRow v 0) ≡ true
+unfolding netAt rowHeight
+row-0-not-below-zero v =
+    let bottom : heightOf v 0 ≡ 0 = omega (arith, min-le-left (0 * v .step) (diameterUnits (v .tank .dh)), zero-mul (v .step)) in
+    rw (bottom, no-shares-at-bottom (itemsIn v))
+
+not-below-zero-again : (y z : ℤ) → nonNeg y ≡ true → leZ y z ≡ true → nonNeg z ≡ true
+not-below-zero-again (pos m) (pos n) a e = refl
+not-below-zero-again (pos m) (negsuc n) a e = absurd (true-not-false (sym e))
+not-below-zero-again (negsuc m) z a e = absurd (true-not-false (sym a))
 
 -- of a table that is made, no net row is below the row before ..
 module _ (v : Survey) (cells : ℕ) (e : verdict (tableTests v cells) ≡ Passed) where
-  rows-pass : (verdict (items (rowsIn v) (fallTest (netRow v))) ≡ Passed) × (verdict (items (rowsIn v) (belowZeroTest (netRow v))) ≡ Passed)
-  unfolding tableTests rowTests
-  rows-pass =
-      let rows = passed-pick (leb (rowsIn v) cells) (verdict (rowTests (netRow v) (rowsIn v))) (refusal 8 0) e .1 in
-      passed-append (items (rowsIn v) (fallTest (netRow v))) (items (rowsIn v) (belowZeroTest (netRow v))) rows
-
   pub none-falls : (i : ℕ) → i < rowsIn v → keepsUp (netRow v) i ≡ true
-  none-falls i l = passed-all (fallTest (netRow v) i) (passed-items (rowsIn v) (fallTest (netRow v)) (rows-pass .0) i l) .0
+  unfolding rowTests
+  none-falls i l =
+      let rows = passed-pick (leb (rowsIn v) cells) (verdict (items (rowsIn v) (fallTest (netRow v)))) _ e .1 in
+      passed-all (fallTest (netRow v) i) (passed-items (rowsIn v) (fallTest (netRow v)) rows i l) .0
 
-  -- .. and none below zero
+  -- .. and none below zero: it would have fallen, or be row 0
   pub none-below-zero : (i : ℕ) → i < rowsIn v → nonNeg (netRow v i) ≡ true
-  none-below-zero i l = passed-all (belowZeroTest (netRow v) i) (passed-items (rowsIn v) (belowZeroTest (netRow v)) (rows-pass .1) i l) .0
+  none-below-zero zero l = row-0-not-below-zero v
+  none-below-zero (suc i) l =
+      not-below-zero-again (netRow v i) (netRow v (suc i)) (none-below-zero i (omega arith)) (none-falls (suc i) l)

@@ -1,11 +1,11 @@
--- The tests of a table (document 01, refusals 8 to 10): the lent table has a cell for each row, no net row is below the row before, and
--- none below zero; the last two with the index of the first such row. Assumes nothing.
+-- The tests of a table (document 01, refusals 8 and 9): the lent table has a cell for each row, and no net row is below the row before,
+-- with the index of the first such row. 10 is retired (document 02, E6). Assumes nothing.
 use Prim.Native.Nat.{ℕ, zero, suc}
 use mathlib.Core.Bool.{Bool, true}
-use mathlib.Core.List.{List, [], _∷_, _++_}
+use mathlib.Core.List.{List, [], _∷_}
 use lib.Dec.{leb}
 use lib.IntN.{ℤ}
-use lib.Signed.{leZ, nonNeg}
+use lib.Signed.{leZ}
 use Rattle.refusal.specs.Test.{Test, test, items}
 use Rattle.survey.specs.declared.decode.Survey.{Survey}
 use Rattle.table.specs.Rows.{rowsIn, netRow}
@@ -18,13 +18,10 @@ keepsUp row (suc i) = leZ (row i) (row (suc i))
 abbrev pub fallTest : (ℕ → ℤ) → ℕ → List Test
 fallTest row i = test 9 i (keepsUp row i) ∷ []
 
-abbrev pub belowZeroTest : (ℕ → ℤ) → ℕ → List Test
-belowZeroTest row i = test 10 i (nonNeg (row i)) ∷ []
+-- of so many rows, for a lent table of so many cells
+unfoldable pub rowTests : (ℕ → ℤ) → (rows cells : ℕ) → List Test
+rowTests row rows cells = test 8 0 (leb rows cells) ∷ items rows (fallTest row)
 
--- refusal 9 is looked for in the whole table before 10
-unfoldable pub rowTests : (ℕ → ℤ) → ℕ → List Test
-rowTests row n = items n (fallTest row) ++ items n (belowZeroTest row)
-
--- refusals 8 to 10, for a lent table of so many cells
-unfoldable pub tableTests : Survey → ℕ → List Test
-tableTests v cells = test 8 0 (leb (rowsIn v) cells) ∷ rowTests (netRow v) (rowsIn v)
+-- of a survey's net rows
+abbrev pub tableTests : Survey → ℕ → List Test
+tableTests v cells = rowTests (netRow v) (rowsIn v) cells

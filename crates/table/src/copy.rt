@@ -1,11 +1,10 @@
 // Net rows that are tested and then copied to the front of a lent table, once nothing is left to refuse.
 ghost use mathlib.Core.Path.{_≡_};
-ghost use mathlib.Core.List.{_∷_, _++_};
+ghost use mathlib.Core.List.{_++_};
 ghost use Prim.Native.Nat.{ℕ, _^_, _≤_, _<_};
-ghost use lib.Dec.{leb};
 ghost use lib.ListN.{length, drop};
 ghost use Rattle.laws.specs.Fill.{rowsOf};
-ghost use Rattle.refusal.specs.Test.{test, verdict};
+ghost use Rattle.refusal.specs.Test.{verdict};
 ghost use Rattle.table.specs.Tests.{rowTests};
 ghost use Rattle.table.specs.Answer.{leftBy};
 ghost use Rattle.table.specs.RowLaws.{netOf, cellIn};
@@ -26,10 +25,10 @@ fn copy_rows(net: &[i64], rows: usize, table: &mut [u32])
     }
 }
 
-// Refusals 8 to 10 on rows in memory; a table that is refused is not touched.
+// Refusals 8 and 9 on rows in memory; a table that is refused is not touched.
 pub fn test_and_copy(net: &[i64], rows: usize, table: &mut [u32]) -> Verdict
     requires { ⌜ (rows ≤ length (now net)) × (rows < 2 ^ 32) × ((i : ℕ) → i < rows → cellIn (now net) i < 2 ^ 32) ⌝ }
-    ensures { λ r. ⌜ r ≡ verdict (test 8 0 (leb rows (length (now (table .entry)))) ∷ rowTests (netOf (now (net .entry))) rows) ⌝ }
+    ensures { λ r. ⌜ r ≡ verdict (rowTests (netOf (now (net .entry))) rows (length (now (table .entry)))) ⌝ }
     ensures { λ r. ⌜ now (table .exit) ≡ leftBy r (cellIn (now (net .entry))) rows (now (table .entry)) ⌝ }
 {
     if table.len() < rows {

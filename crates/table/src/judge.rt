@@ -25,7 +25,7 @@ fn rows_judged(v: Survey) -> Verdict
     rows_tested(&net, rows)
 }
 
-// Refusals 1 to 10 and 14, of which 8 is never given.
+// Refusals 1 to 9 and 14, of which 8 is never given.
 pub fn judged(file: Decoded) -> Verdict
     requires { ⌜ WithinLimits file ⌝ }
     ensures { λ r. ⌜ r ≡ verdictOn file mostRows ⌝ }

@@ -5,7 +5,7 @@ use mathlib.Core.Path.{_≡_, refl}
 use lib.IntN.{pos, negsuc}
 use Rattle.survey.specs.Fault.{faultWith}
 use Rattle.survey.specs.Sentence.{ofCourses, ofDeadwood, ofSize, ofLargeFile, ofOverlap, ofLengths, ofShellDiameter, ofHeadDiameter}
-use Rattle.survey.specs.Sentence.{ofHeadLength, ofLentTable, ofFallingRow, ofRowBelowZero, ofUnknown}
+use Rattle.survey.specs.Sentence.{ofHeadLength, ofLentTable, ofFallingRow, ofUnknown}
 use Rattle.text.specs.Ascii.{ascii}
 use Rattle.text.specs.Digits.{digits, inThrees, grouped}
 use Rattle.text.specs.Sentence.{behindLines, firstLine, filledIn, filled}
@@ -26,11 +26,10 @@ pub in-words :
     × (faultWords (faultWith ofHeadLength 50000 25001 1 25000) ≡ ascii "head length L3 25001 (250.01 mm): must be at most 25000 for spherical caps, half the head diameter D2 50000")
     × (faultWords (faultWith ofLentTable 0 0 0 0) ≡ ascii "lent table: must have a cell for each row")
     × (faultWords (faultWith ofFallingRow 1 10000 0 0) ≡ ascii "row 1 at dip height 10000 (100.00 mm): must not be below the row before; the deadwood is larger than the room there")
-    × (faultWords (faultWith ofRowBelowZero 1 10000 0 0) ≡ ascii "row 1 at dip height 10000 (100.00 mm): must not be below zero")
     × (faultWords (faultWith ofUnknown 5 6 0 0) ≡ ascii "refusal 5 at place 6: not one of this survey's")
     × (faultWords (record { sentence = ofDeadwood + 2; item = 3; value = negsuc 10000000; low = negsuc 9999999; high = pos 10000000 })
     ≡ ascii "deadwood item 3, volume -10000001 (-100,000.01 L): must be -10000000 to 10000000")
     × (faultWords (tooHigh 50001 50000) ≡ ascii "dip height 50001 (500.01 mm): must be at most DH 50000")
     × (faultWords (tooMuch 19636 19635) ≡ ascii "volume 19636 (196.36 L): must be at most the last row, 19635")
 unfolding digits inThrees grouped behindLines firstLine filledIn filled sentences faultWords
-in-words = (refl, refl, refl, refl, refl, refl, refl, refl, refl, refl, refl, refl, refl, refl, refl, refl, refl, refl, refl)
+in-words = (refl, refl, refl, refl, refl, refl, refl, refl, refl, refl, refl, refl, refl, refl, refl, refl, refl, refl)

@@ -61,11 +61,10 @@ sentences =
     -- 35 on: the table
     "lent table: must have a cell for each row" ∷
     "row # at dip height $ (~ mm): must not be below the row before; the deadwood is larger than the room there" ∷
-    "row # at dip height $ (~ mm): must not be below zero" ∷
-    -- 38 on: the lookups
+    -- 37 on: the lookups
     "dip height $ (~ mm): must be at most DH >" ∷
     "volume $ (~ L): must be at most the last row, >" ∷
-    -- 40 on: any other
+    -- 39 on: any other
     "refusal # at place $: not one of this survey's" ∷
     [])
 

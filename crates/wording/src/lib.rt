@@ -65,7 +65,6 @@ pub fn put_words(out: &mut [u8], at: usize, fault: Fault) -> usize
         head length L3 $ (~ mm): must be at most > for spherical caps, half the head diameter D2 #\n\
         lent table: must have a cell for each row\n\
         row # at dip height $ (~ mm): must not be below the row before; the deadwood is larger than the room there\n\
-        row # at dip height $ (~ mm): must not be below zero\n\
         dip height $ (~ mm): must be at most DH >\n\
         volume $ (~ L): must be at most the last row, >\n\
         refusal # at place $: not one of this survey's\n\

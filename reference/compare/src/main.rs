@@ -6,8 +6,8 @@
 //! `compare TANKTABLE TANKLOOKUP TANKCONVERT FOLDER`: the paths of the programs,
 //! and a folder for the survey given by `-f` and those on which the two differ.
 //! Ends with 1 if they differ anywhere, or if a refusal, a sentence, a miss of
-//! the course lengths, an edge of spherical caps, of seams or of conversions, or an
-//! exact half that can occur was seen too seldom.
+//! the course lengths, an edge of spherical caps, of seams or of conversions, an
+//! exact half or a row below zero that can occur was seen too seldom.
 
 mod conversions;
 mod lookups;

@@ -4,10 +4,6 @@
 use reference::counted::{Counted, Tally};
 use std::collections::BTreeMap;
 
-/// Refusal 10 cannot come out of a survey: row 0 is never below zero, and a
-/// row below the row before is refusal 9.
-const CANNOT_OCCUR: u32 = 10;
-
 /// Fewer than this say little of a refusal.
 const ENOUGH: u64 = 50;
 
@@ -26,12 +22,13 @@ impl Seen {
         }
     }
 
+    /// Counts an answer. A refusal that the call cannot give ends the comparison.
     pub fn add(&mut self, refusal: u32) {
-        *self.counts.entry(refusal).or_default() += 1;
+        let count = self.counts.get_mut(&refusal);
+        *count.unwrap_or_else(|| panic!("this call cannot give refusal {refusal}")) += 1;
     }
 
-    /// Prints the counts, and says whether each refusal that can occur was
-    /// seen often enough.
+    /// Prints the counts, and says whether each was seen often enough.
     pub fn print(&self, what: &str) -> bool {
         println!("{what}: {} compared", self.counts.values().sum::<u64>());
         let mut often_enough = true;
@@ -40,7 +37,7 @@ impl Seen {
                 0 => "accepted".to_string(),
                 _ => format!("refusal {refusal}"),
             };
-            let too_few = refusal != CANNOT_OCCUR && count < ENOUGH;
+            let too_few = count < ENOUGH;
             println!(
                 "  {name}: {count}{}",
                 if too_few { ", TOO FEW" } else { "" }

@@ -2,6 +2,7 @@
 
 use crate::seen::{print_tally, Seen};
 use compare::calls::{self, TableAnswer};
+use reference::below_zero::BelowZero;
 use reference::caps::Cap;
 use reference::counted::Tally;
 use reference::generate::{case, Case};
@@ -34,18 +35,20 @@ pub struct Tried {
     rises: Tally<Rise>,
     halves: Tally<(Rounded, Half)>,
     falls: Tally<Fall>,
+    below_zero: Tally<BelowZero>,
 }
 
 impl Tried {
     /// None yet.
     pub fn new() -> Tried {
         Tried {
-            refusals: Seen::new((1..=10).chain([14])),
+            refusals: Seen::new((1..=9).chain([14])),
             misses: Tally::default(),
             caps: Tally::default(),
             rises: Tally::default(),
             halves: Tally::default(),
             falls: Tally::default(),
+            below_zero: Tally::default(),
         }
     }
 
@@ -59,8 +62,9 @@ impl Tried {
         self.rises.add(Rise::of_survey(survey, refusal));
         if let Some(tank) = tank {
             self.falls.add(Fall::of_tank(tank));
-            if refusal.is_none() {
-                self.halves.add(Rounded::of_tank(tank));
+            match number {
+                0 => self.halves.add(Rounded::of_tank(tank)),
+                _ => self.below_zero.add(BelowZero::of_tank(tank)),
             }
         }
     }
@@ -76,7 +80,8 @@ impl Tried {
         let rises = print_tally("surveys by their seams", &self.rises);
         let halves = print_tally("surveys with exact halves", &self.halves);
         let falls = print_tally("surveys with exact halves at a fall", &self.falls);
-        refusals && misses && caps && rises && halves && falls
+        let below_zero = print_tally("surveys with a net row below zero", &self.below_zero);
+        refusals && misses && caps && rises && halves && falls && below_zero
     }
 }
 

@@ -6,12 +6,11 @@ use borrow.Author.Needs.{needs}
 use Rattle.survey.proofs.fault.headed_fault.Statement.{statement}
 use Rattle.survey.proofs.fault.headed_fault.Tie as tie
 
-returns-11 : tie.Need-returns-11
+returns-10 : tie.Need-returns-10
 unfolding headedFault
-returns-11 c =
+returns-10 c =
     let none = c .before .match .rest in
     rw (
-      ne-eqb _ _ (none .0 .0 .0 .0 .0 .0 .0 .0 .0 .1),
       ne-eqb _ _ (none .0 .0 .0 .0 .0 .0 .0 .0 .1),
       ne-eqb _ _ (none .0 .0 .0 .0 .0 .0 .0 .1),
       ne-eqb _ _ (none .0 .0 .0 .0 .0 .0 .1),
@@ -29,7 +28,7 @@ headed-fault-spec =
     tie.close
     (tie.spec (λ c κs. search needs) (λ c κs. search needs) (λ c κs. search needs) (λ c κs. search needs)
     (λ c κs. search needs) (λ c κs. search needs) (λ c κs. search needs) (λ c κs. search needs)
-    (λ c κs. search needs) (λ c κs. search needs) (λ c κs. search needs)
+    (λ c κs. search needs) (λ c κs. search needs)
     (λ c. rw (c .before .match .keys1) (c .count-fault .ensures))
     (λ c. rw (c .before .match .keys2) (c .place-fault .ensures))
     (λ c. rw (c .before .match .keys3) (c .header-fault .ensures))
@@ -39,5 +38,4 @@ headed-fault-spec =
     (λ c. rw (c .before .match .keys7) (c .dimension-fault3 .ensures))
     (λ c. rw (c .before .match .keys8) (c .fault-with .ensures))
     (λ c. rw (c .before .match .keys9) (c .row-fault .ensures))
-    (λ c. rw (c .before .match .keys10) (c .row-fault2 .ensures))
-    returns-11)
+    returns-10)

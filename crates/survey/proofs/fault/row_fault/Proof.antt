@@ -4,6 +4,7 @@ use mathlib.Core.Path.{_∙_, ap}
 use native.Mathlib.Nat.{mul-le-mul}
 use native.Mathlib.Omega.{arith}
 use Rattle.schedule.specs.Rows.{rowHeight}
+use Rattle.survey.specs.Sentence.{ofFallingRow}
 use Rattle.survey.specs.Fault.{faultWith, rowFault}
 use borrow.Author.Needs.{needs}
 use Rattle.survey.proofs.fault.row_fault.Statement.{statement}
@@ -20,14 +21,14 @@ unfolding rowFault rowHeight
 returns c =
     let a = c .before .before .before .before .before .args in
     rw (← c .before .before .before .word .ensures, ← c .before .before .word2 .ensures)
-    (c .fault-with .ensures ∙ ap (λ (height : ℕ). faultWith (a .sentence) (a .row) height 0 0) (omega arith))
+    (c .fault-with .ensures ∙ ap (λ (height : ℕ). faultWith ofFallingRow (a .row) height 0 0) (omega arith))
 
 returns-2 : tie.Need-returns-2
 unfolding rowFault rowHeight
 returns-2 c =
     let a = c .before .before .before .before .before .args in
     rw (← c .before .before .before .word .ensures, ← c .before .before .word2 .ensures)
-    (c .fault-with2 .ensures ∙ ap (λ (height : ℕ). faultWith (a .sentence) (a .row) height 0 0) (omega arith))
+    (c .fault-with2 .ensures ∙ ap (λ (height : ℕ). faultWith ofFallingRow (a .row) height 0 0) (omega arith))
 
 pub row-fault-spec : {M : Type 1} → statement M
 row-fault-spec =

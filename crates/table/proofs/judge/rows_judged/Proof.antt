@@ -1,9 +1,8 @@
 -- `table::judge::rows_judged` meets its contract: the rows in memory are the survey's net rows, and there is room for all of them. Assumes nothing.
-use mathlib.Core.Path.{_≡_, _∙_, ap}
+use mathlib.Core.Path.{_≡_, sym, _∙_, ap}
 use mathlib.Core.List.{List}
 use Prim.Native.Nat.{ℕ, _≤_}
 use native.Mathlib.Omega.{arith}
-use borrow.Author.Tests.{le-leb}
 use lib.IntN.{ℤ}
 use lib.ListN.{length-append}
 use Rattle.laws.specs.FillLaws.{length-rowsOf}
@@ -12,9 +11,9 @@ use Rattle.refusal.specs.Test.{verdict}
 use Rattle.schedule.specs.Rows.{rowCount, mostRows}
 use Rattle.schedule.specs.RowsLaws.{few-rows}
 use Rattle.table.specs.Rows.{rowsIn, netRow}
-use Rattle.table.specs.Tests.{rowTests, tableTests}
+use Rattle.table.specs.Tests.{rowTests}
 use Rattle.table.specs.RowLaws.{netOf}
-use Rattle.table.specs.RowTestLaws.{front-tests}
+use Rattle.table.specs.RowTestLaws.{room-enough, front-tests}
 use borrow.Author.Needs.{needs}
 use Rattle.table.proofs.judge.rows_judged.Statement.{statement}
 use Rattle.table.proofs.judge.rows_judged.Tie as tie
@@ -39,15 +38,15 @@ rows-tested-requires c κs =
     (simp length-append (omega (arith, length-rowsOf (netRow (c .before .before .before .before .before .before .before .before .args .v)) rows)), omega (arith, rows-are (c .before .before .before .before), few (c .before .before .before .before)))
 
 returns : tie.Need-returns
-unfolding tableTests
 returns c =
-    let v = c .before .before .before .before .before .before .before .before .before .args .v in
-    let rows = c .before .before .before .before .before .row-count .result in
-    rw (le-leb (rowsIn v) mostRows (few (c .before .before .before .before .before)))
-    (c .rows-tested .ensures
-    ∙ ap (λ (n : List ℤ). verdict (rowTests (netOf n) rows)) (c .before .before .before .net-rows .ensures)
-    ∙ ap verdict (front-tests (netRow v) rows _)
-    ∙ ap (λ (n : ℕ). verdict (rowTests (netRow v) n)) (rows-are (c .before .before .before .before .before)))
+    let counted = c .before .before .before .before .before in
+    let v = counted .before .before .before .before .args .v in
+    let rows = counted .row-count .result in
+    c .rows-tested .ensures
+    ∙ sym (room-enough _ rows mostRows (rw (rows-are counted) (few counted)))
+    ∙ ap (λ (n : List ℤ). verdict (rowTests (netOf n) rows mostRows)) (c .before .before .before .net-rows .ensures)
+    ∙ ap verdict (front-tests (netRow v) rows _ mostRows)
+    ∙ ap (λ (n : ℕ). verdict (rowTests (netRow v) n mostRows)) (rows-are counted)
 
 pub rows-judged-spec : {M : Type 1} → statement M
 rows-judged-spec =

@@ -1,19 +1,18 @@
 -- `table::make::fill` meets its contract: the rows in memory are the survey's net rows, so the verdict on them and the cells made of
 -- them are the definition's. Assumes nothing.
 use mathlib.Core.Path.{_≡_, _∙_, ap}
-use mathlib.Core.List.{List, _∷_}
+use mathlib.Core.List.{List}
 use Prim.Native.Nat.{ℕ, _≤_}
 use native.Mathlib.Omega.{arith}
-use lib.Dec.{leb}
 use lib.IntN.{ℤ}
 use lib.ListN.{length, length-append}
 use Rattle.laws.specs.FillLaws.{length-rowsOf}
 use Rattle.measure.specs.Quantity.{diameterUnits}
-use Rattle.refusal.specs.Test.{test, verdict}
+use Rattle.refusal.specs.Test.{verdict}
 use Rattle.schedule.specs.Rows.{rowCount, mostRows}
 use Rattle.schedule.specs.RowsLaws.{few-rows}
 use Rattle.table.specs.Rows.{rowsIn, heightOf, netRow, cellOf}
-use Rattle.table.specs.Tests.{rowTests, tableTests}
+use Rattle.table.specs.Tests.{rowTests}
 use Rattle.table.specs.Answer.{leftBy}
 use Rattle.table.specs.RowLaws.{netOf, cellIn, net-small, front-row, front-left}
 use Rattle.table.specs.RowTestLaws.{front-tests}
@@ -44,7 +43,6 @@ test-and-copy-requires c κs =
     )
 
 returns : tie.Need-returns
-unfolding tableTests
 returns c =
     let a = c .before .before .before .before .before .before .before .before .before .before .before .before .before .args in
     let v = a .v in
@@ -53,9 +51,9 @@ returns c =
     let net = c .before .before .before .before .before .before .net-rows .ensures in
     let judged = c .before .before .test-and-copy .result in (
       c .before .before .test-and-copy .ensures .0
-          ∙ ap (λ (n : List ℤ). verdict (test 8 0 (leb rows (length table)) ∷ rowTests (netOf n) rows)) net
-          ∙ ap (λ ts. verdict (test 8 0 (leb rows (length table)) ∷ ts)) (front-tests (netRow v) rows _)
-          ∙ ap (λ (r : ℕ). verdict (test 8 0 (leb r (length table)) ∷ rowTests (netRow v) r)) (rows-are (c .before .before .before .before .before .before .before .before)),
+          ∙ ap (λ (n : List ℤ). verdict (rowTests (netOf n) rows (length table))) net
+          ∙ ap verdict (front-tests (netRow v) rows _ (length table))
+          ∙ ap (λ (r : ℕ). verdict (rowTests (netRow v) r (length table))) (rows-are (c .before .before .before .before .before .before .before .before)),
       c .before .before .test-and-copy .ensures .1
           ∙ ap (λ (n : List ℤ). leftBy judged (cellIn n) rows table) net
           ∙ front-left judged (netRow v) rows _ table
