@@ -3,8 +3,8 @@
 //!
 //! A case is made in three steps: a plan of a survey (sound, with diameters at
 //! their limits, with spherical caps as long as can be or longer, with seams or
-//! corrected readings at an edge, with deadwood that makes a row fall or almost
-//! fall, or with exact halves), then none to three kinds of damage to its bytes,
+//! corrected readings at an edge, with deadwood that makes a row fall, almost fall
+//! or fall below zero, or with exact halves), then none to three kinds of damage to its bytes,
 //! then a length for the table. A case for the converter is made likewise, in the
 //! old format and without a table.
 
@@ -99,7 +99,8 @@ fn old_plan(random: &mut Random) -> Plan {
 fn plan_of(random: &mut Random, format: Format) -> Plan {
     match random.between(1, 40) {
         1..=5 => diameters::at_limits(random, format),
-        6..=12 => falling::falling(random, format),
+        6..=7 => falling::below_zero(random, format),
+        8..=12 => falling::falling(random, format),
         13..=15 => caps::at_longest(random, format),
         16 => sound::most_records(random, format),
         17..=18 => sound::wild_deadwood(random, format),

@@ -1,5 +1,6 @@
 //! Deadwood that makes a row fall, or stay just level, at the first, an inner
-//! or the last row; also where it hangs on which way an exact half goes.
+//! or the last row; also below zero, and where it hangs on which way an exact half
+//! goes.
 
 use super::plan::Plan;
 use super::sound;
@@ -20,6 +21,11 @@ pub fn falling(random: &mut Random, format: Format) -> Plan {
             .map(|_| item(random, plan, grown))
             .collect()
     })
+}
+
+/// A survey of which a row falls almost to zero, and the next one to zero or below.
+pub fn below_zero(random: &mut Random, format: Format) -> Plan {
+    with_items(random, format, emptying_items)
 }
 
 /// A survey of which a row falls or not by where an exact half goes.
@@ -65,6 +71,19 @@ fn item(random: &mut Random, plan: &Plan, grown: &[u64]) -> Deadwood {
     };
     let volume = grown[index] as i64 + random.pick(&[-1, 0, 0, 1, 1, 1, 5_000]);
     over_gaps(plan, index, 1, volume)
+}
+
+/// Deadwood over two gaps low in the tank. The first item leaves a little of what
+/// the gross has grown by since row 0, the second one nothing, or takes more.
+fn emptying_items(random: &mut Random, plan: &Plan, grown: &[u64]) -> Vec<Deadwood> {
+    let index = random.index(1, 3);
+    let since_row_0 = grown[..=index].iter().sum::<u64>() as i64;
+    let left = random.pick(&[0, 0, 1, 7]);
+    let below = random.pick(&[0, 1, 1, 5_000]);
+    vec![
+        over_gaps(plan, index, 1, since_row_0 - left),
+        over_gaps(plan, index + 1, 1, grown[index + 1] as i64 + left + below),
+    ]
 }
 
 /// Deadwood over two gaps in the lower half of the tank, where the next gap grows
