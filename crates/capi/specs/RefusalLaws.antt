@@ -2,15 +2,15 @@
 -- And no answer has refusal 10, which is retired. Assumes nothing.
 use Prim.Native.Nat.{ℕ}
 use mathlib.Core.Path.{_≡_, refl, ap}
-use mathlib.Core.Bool.{false}
+use mathlib.Core.Bool.{true, false}
 use mathlib.Core.List.{List}
 use native.Mathlib.Omega.{arith}
 use Rattle.schedule.specs.Rows.{mostRows}
 use Rattle.refusal.specs.declared.Refusal.{Refusal}
 use Rattle.refusal.specs.declared.Verdict.{Verdict}
 use Rattle.refusal.specs.declared.Verdict.the-variants.{Passed, Refused}
-use Rattle.refusal.specs.Test.{verdict}
-use Rattle.refusal.specs.NumberLaws.{inUse, verdict-in-use, unused-is-passed}
+use Rattle.refusal.specs.Test.{Test, verdict}
+use Rattle.refusal.specs.NumberLaws.{inUse, allInUse, each-numbered, verdict-in-use, unused-is-passed}
 use Rattle.survey.specs.declared.format.Format.{Format}
 use Rattle.survey.specs.Survey.{decodedAs, decoded}
 use Rattle.survey.specs.Format.{format48, today}
@@ -24,10 +24,14 @@ use Rattle.capi.specs.Numbers.{tableNumbers, litresNumbers, heightNumber
 
 -- a number that is not in use
 module _ (n : ℕ) (unused : inUse n ≡ false) where
-  -- `number` is what an answer made of the verdict on a file and its rows tells: of a refusal, its number
+  -- `number` is what an answer made of a verdict tells: of a refusal, its number. The verdict is on a file and its rows, or on tests with numbers
+  -- in use
   module _ (number : Verdict → ℕ) (passed-on : (r : Refusal) → number (Refused r) ≡ r .number) where
     rows-answered : (f : Format) (s : List ℕ) (cells : ℕ) → number (verdictOn (decodedAs f s) cells) ≡ n → verdictOn (decodedAs f s) cells ≡ Passed
     rows-answered f s cells = unused-is-passed number passed-on n unused (verdictOn (decodedAs f s) cells) (refusal-in-use f s cells)
+
+    tests-answered : (ts : List Test) → allInUse ts ≡ true → number (verdict ts) ≡ n → verdict ts ≡ Passed
+    tests-answered ts all = unused-is-passed number passed-on n unused (verdict ts) (verdict-in-use ts (each-numbered ts all))
 
   pub table-answered : (s : List ℕ) (cells : ℕ) → tableNumbers (made (decoded s) cells) .refusal ≡ n → verdictOn (decoded s) cells ≡ Passed
   unfolding made decoded
@@ -42,15 +46,13 @@ module _ (n : ℕ) (unused : inUse n ≡ false) where
       → verdict (litresTests dh step rows h) ≡ Passed
   unfolding litresAnswer
   litres-answered dh step rows h =
-      unused-is-passed (λ v. litresNumbers (litresBy v (litres dh step rows h)) .refusal) (λ r. refl) n unused
-      _ (verdict-in-use (litresTests dh step rows h) (refl, (refl, tt)))
+      tests-answered (λ v. litresNumbers (litresBy v (litres dh step rows h)) .refusal) (λ r. refl) (litresTests dh step rows h) refl
 
   pub height-answered : (dh step : ℕ) (rows : List ℕ) (w : ℕ) → heightNumbers (heightAnswer dh step rows w) .refusal ≡ n
       → verdict (heightTests dh step rows w) ≡ Passed
   unfolding heightAnswer
   height-answered dh step rows w =
-      unused-is-passed (λ v. heightNumbers (heightBy v (heightFor dh step rows w)) .refusal) (λ r. refl) n unused
-      _ (verdict-in-use (heightTests dh step rows w) (refl, (refl, tt)))
+      tests-answered (λ v. heightNumbers (heightBy v (heightFor dh step rows w)) .refusal) (λ r. refl) (heightTests dh step rows w) refl
 
 -- whatever the file, the table lent and what is asked
 pub never-10 :
