@@ -4,9 +4,9 @@
 //! A case is made in three steps: a plan of a survey (sound, with diameters at
 //! their limits, with spherical caps as long as can be or longer, with seams or
 //! corrected readings at an edge, with deadwood that makes a row fall, almost fall
-//! or fall below zero, or with exact halves), then none to three kinds of damage to its bytes,
-//! then a length for the table. A case for the converter is made likewise, in the
-//! old format and without a table.
+//! or fall below zero, or with exact halves), then none to three kinds of damage to
+//! its bytes, then a length for the table. A case for the converter is made
+//! likewise, in the old format and without a table.
 
 pub mod caps;
 pub mod damage;

@@ -592,7 +592,7 @@ fn nine_a_row_that_falls(paper: Paper) {
 fn nine_for_a_row_below_zero(paper: Paper) {
     // The rows are 0, 2796, 7334, 12301, 16839, 19635 less the items.
     let cases: [(&[(u32, u32, i32)], _); 4] = [
-        // Row 1 is -1; row 1 is -2,204, and no other is less; row 5 is -1.
+        // Row 1 is -1; row 1 is -2,204, the others are as they were; row 5 is -1.
         (&[(0, 10_000, 2_797)], (9, 1)),
         (&[(0, 10_000, 5_000), (10_000, 20_000, -5_000)], (9, 1)),
         (&[(40_000, 50_000, 19_636)], (9, 5)),

@@ -9,8 +9,8 @@ use Rattle.schedule.specs.Rows.{mostRows}
 use Rattle.refusal.specs.declared.Refusal.{Refusal}
 use Rattle.refusal.specs.declared.Verdict.{Verdict}
 use Rattle.refusal.specs.declared.Verdict.the-variants.{Passed, Refused}
-use Rattle.refusal.specs.Test.{Test, verdict}
-use Rattle.refusal.specs.NumberLaws.{inUse, allInUse, each-numbered, verdict-in-use, unused-is-passed}
+use Rattle.refusal.specs.Test.{Test, verdict, inUse}
+use Rattle.refusal.specs.NumberLaws.{allInUse, each-numbered, verdict-in-use, unused-is-passed}
 use Rattle.survey.specs.declared.format.Format.{Format}
 use Rattle.survey.specs.Survey.{decodedAs, decoded}
 use Rattle.survey.specs.Format.{format48, today}

@@ -2,20 +2,16 @@
 -- refusal's number and gives 0 met none, and never 10, which is retired. Assumes nothing.
 use Prim.Native.Nat.{ℕ}
 use mathlib.Core.Path.{_≡_, refl, sym, _∙_, ap}
-use mathlib.Core.Bool.{Bool, true, false, _&&_, _||_}
+use mathlib.Core.Bool.{Bool, true, false, _&&_}
 use mathlib.Core.List.{List, [], _∷_}
 use Rattle.laws.specs.BoolLaws.{true-not-false, both-pass}
 use Rattle.refusal.specs.declared.Refusal.{Refusal}
 use Rattle.refusal.specs.declared.Verdict.{Verdict}
 use Rattle.refusal.specs.declared.Verdict.the-variants.{Passed, Refused}
-use Rattle.refusal.specs.Test.{Test, verdict, within, firstRefusal}
+use Rattle.refusal.specs.Test.{Test, verdict, inUse, firstRefusal}
 use Rattle.refusal.specs.EachLaws.{Each, refused-each}
 
--- the numbers that faults have: 1 to 14 but for 10, which is retired and goes to no other fault (document 02, E6)
-abbrev pub inUse : ℕ → Bool
-inUse n = within 1 n 9 || within 11 n 14
-
--- a refusal has such a number ..
+-- a refusal has a number in use ..
 abbrev pub Numbered : Refusal → Type 0
 Numbered r = inUse (r .number) ≡ true
 

@@ -1,7 +1,7 @@
 -- Document 01, 'Refusal numbers, tested in this order': a test has the refusal's number, its place and whether it passes; the
 -- verdict on a list of tests is the first that fails. Assumes nothing.
 use Prim.Native.Nat.{ℕ, zero, suc, _+_}
-use mathlib.Core.Bool.{Bool, _&&_}
+use mathlib.Core.Bool.{Bool, _&&_, _||_}
 use mathlib.Core.List.{List, [], _∷_, _++_}
 use lib.Dec.{leb}
 use Rattle.laws.specs.Order.{pick}
@@ -33,6 +33,10 @@ items (suc n) f = items n f ++ f n
 -- a number within its limits
 abbrev pub within : (low x high : ℕ) → Bool
 within low x high = leb low x && leb x high
+
+-- the numbers that refusals have: 1 to 14 but for 10, which is retired and goes to no other fault (document 02, E6)
+abbrev pub inUse : ℕ → Bool
+inUse n = within 1 n 9 || within 11 n 14
 
 -- two numbers that differ by no more than so much, either way
 abbrev pub near : (x y most : ℕ) → Bool

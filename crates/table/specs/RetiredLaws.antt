@@ -6,6 +6,7 @@ use mathlib.Core.Bool.{true}
 use mathlib.Core.List.{List, [], _∷_, _++_}
 use native.Mathlib.Omega.{arith}
 use lib.Dec.{leb}
+use lib.IntN.{ℤ}
 use lib.Signed.{nonNeg}
 use Rattle.measure.specs.declared.diameter.Diameter.{Diameter}
 use Rattle.refusal.specs.declared.Verdict.{Verdict}
@@ -29,21 +30,21 @@ no-row-below-zero file cells e i l =
     none-below-zero (file .survey) cells rows i (omega (arith, table .1))
 
 -- the tests before: 10 was looked for once 9 had been in the whole table
+
+abbrev pub belowZeroTest : (ℕ → ℤ) → ℕ → List Test
+belowZeroTest row i = test 10 i (nonNeg (row i)) ∷ []
+
 abbrev pub testsBefore : Survey → ℕ → List Test
 testsBefore v cells =
-    test 8 0 (leb (rowsIn v) cells)
-    ∷ (items (rowsIn v) (fallTest (netRow v)) ++ items (rowsIn v) (λ i. test 10 i (nonNeg (netRow v i)) ∷ []))
+    test 8 0 (leb (rowsIn v) cells) ∷ (items (rowsIn v) (fallTest (netRow v)) ++ items (rowsIn v) (belowZeroTest (netRow v)))
 
 same-verdict : (v : Survey) (cells : ℕ) → verdict (testsBefore v cells) ≡ verdict (tableTests v cells)
 unfolding rowTests
-same-verdict v cells = verdict-append (tableTests v cells) below-zero ∙ by-verdict (verdict (tableTests v cells)) refl
+same-verdict v cells =
+    verdict-append (tableTests v cells) (items (rowsIn v) (belowZeroTest (netRow v))) ∙ by-verdict (verdict (tableTests v cells)) refl
   where
-    below-zero : List Test
-    below-zero = items (rowsIn v) (λ i. test 10 i (nonNeg (netRow v i)) ∷ [])
-
-    by-verdict : (w : Verdict) → verdict (tableTests v cells) ≡ w → firstRefusal w (verdict below-zero) ≡ w
-    by-verdict Passed e =
-        all-passed (rowsIn v) (λ i. test 10 i (nonNeg (netRow v i)) ∷ []) (λ i l. rw (none-below-zero v cells e i l))
+    by-verdict : (w : Verdict) → verdict (tableTests v cells) ≡ w → firstRefusal w (verdict (items (rowsIn v) (belowZeroTest (netRow v)))) ≡ w
+    by-verdict Passed e = all-passed (rowsIn v) (belowZeroTest (netRow v)) (λ i l. rw (none-below-zero v cells e i l))
     by-verdict (Refused r) e = refl
 
 -- the verdict before, on any file and for a lent table of any length, is the verdict
