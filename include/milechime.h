@@ -89,7 +89,9 @@ struct milechime_table_answer {
  * from table[0] on; cells behind them are untouched, and so is the whole
  * table in a refusal. MILECHIME_MOST_ROWS cells are enough for every survey.
  * No row is below the row before, and a survey without deadwood that passes
- * 1 to 8 and 14 always gets its table.
+ * 1 to 8 and 14 always gets its table. Where d1 and d2 are DH, the heads are
+ * of kind 0 or 1 and there is no deadwood, two rows at dip heights that add up
+ * to DH are together the last row, give or take 3.
  */
 struct milechime_table_answer milechime_table(
     const uint8_t *survey, size_t survey_length,

@@ -78,7 +78,7 @@ def examples(folder: Path) -> None:
             shutil.copy(file, to)
         return to
 
-    check("twelve surveys and eleven TOML files", (12, 11), (len(list(EXAMPLES.glob("*.survey"))), len(list(EXAMPLES.glob("*.toml")))))
+    check("thirteen surveys and twelve TOML files", (13, 12), (len(list(EXAMPLES.glob("*.survey"))), len(list(EXAMPLES.glob("*.toml")))))
     check("the examples agree both ways", [], disagreements(copy("as they are")))
     changed = copy("a byte changed")
     data = bytearray((changed / "falling_row.survey").read_bytes())

@@ -72,6 +72,12 @@ def survey(*, kind=0, dh=50_000, l1=100_000, left=160_221, right=160_221, l2=0, 
     return struct.pack("<14I", kind, dh, l1, left, right, l2, l3, step, *found[0], *found[1], *found[2]) + data
 
 
+def tank(dh, *, d1=None, d2=None, l1=100_000, **parts):
+    """The bytes of a survey whose diameters come out as these, at DH where nothing else is said; its shell is one course."""
+    left, right = readings(d2 or dh)
+    return survey(dh=dh, l1=l1, left=left, right=right, courses=[(*readings(d1 or dh), l1, THICKNESS)], **parts)
+
+
 def try_all(what, *parts):
     """Runs a test's parts, tells the checks of each and of all, and exits with 1 if one failed."""
     for part in parts:

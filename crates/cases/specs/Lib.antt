@@ -5,4 +5,5 @@ pub mod ReadingLaws
 pub mod HalfReadingLaws
 pub mod SlabReadingLaws
 pub mod DomeReadingLaws
+pub mod MirrorReadingLaws
 pub mod ExampleLaws

@@ -1,4 +1,4 @@
--- Laws of the corrected height: what it is by which diameter is larger, that it stays within D, and that it never falls.
+-- Laws of the corrected height: what it is by which diameter is larger, that it is the dip height where D is DH, that it stays within D, and that it never falls.
 -- Assumes nothing.
 use Prim.Native.Nat.{ℕ, suc, _+_, _-_, _/_, _≤_, min}
 use mathlib.Core.Path.{_≡_, _∙_, ap}
@@ -21,6 +21,10 @@ corrected-down d dh h t e =
     ∙ by-order (t / 2 + 1) h
     (λ l. ap (λ x. heldWithin x d) (difference-up h (suc (t / 2)) (h - (t / 2 + 1)) (omega arith)))
     (λ l. ap (λ x. heldWithin x d) (difference-down h (suc (t / 2)) (t / 2 - h) (omega arith)) ∙ omega arith)
+
+-- where D is DH it is the dip height
+pub corrected-same : (d h : ℕ) → h ≤ d → correctedHeight d d h ≡ h
+corrected-same d h l = corrected-up d d h 0 (omega arith) ∙ omega arith
 
 pub corrected-at-most : (d dh h : ℕ) → correctedHeight d dh h ≤ d
 corrected-at-most d dh h =

@@ -1,5 +1,5 @@
 -- Laws of `nearest`, by which everything above knows it: where it goes by the rest, that it lies within half of the quotient, never falls as
--- a grows, is exact on a multiple, and that a factor of both numbers cancels. Only `nearest-of-half` says where a half goes; the others would
+-- a grows, is exact on a multiple, that a factor of both numbers cancels, and what becomes of a sum. Only `nearest-of-half` says where a half goes; the others would
 -- hold of a half that goes either way. Assumes nothing.
 use Prim.Native.Nat.{ℕ, _+_, _*_, _/_, _%_, _≤_, _<_}
 use mathlib.Core.Path.{_≡_, sym, _∙_, ap, subst}
@@ -113,3 +113,19 @@ nearest-cancel k a b k-some b-some =
         let twice : k * r + k * r ≡ k * (r + r) = omega arith in
         rw (apart, nearest-of-rest q (k * r) (k * b) (mul-lt-mul-of-pos-left l k-some), nearest-of-rest q r b l)
         (rw (twice, scaled-order k (r + r) b k-some, scaled-order k b (r + r) k-some))
+
+-- whole numbers less than two apart
+one-apart : (x y b : ℕ) → 0 < b → 2 * (x * b) ≤ 2 * (y * b) + 3 * b → x ≤ y + 1
+one-apart x y b some l =
+    by-order x (y + 1) (λ h. h)
+    (λ h. absurd (let apart : (y + 2) * b ≤ x * b = mul-le-mul-right b (omega arith) in omega arith))
+
+-- two numbers rounded each by itself come to their sum rounded, give or take one
+pub nearest-of-sum : (a a′ b : ℕ) → 0 < b
+    → (nearest a b + nearest a′ b ≤ nearest (a + a′) b + 1) × (nearest (a + a′) b ≤ nearest a b + nearest a′ b + 1)
+nearest-of-sum a a′ b some = (
+  one-apart (nearest a b + nearest a′ b) (nearest (a + a′) b) b some
+      (omega (arith, nearest-above a b, nearest-above a′ b, nearest-below (a + a′) b some)),
+  one-apart (nearest (a + a′) b) (nearest a b + nearest a′ b) b some
+      (omega (arith, nearest-below a b some, nearest-below a′ b some, nearest-above (a + a′) b)),
+)

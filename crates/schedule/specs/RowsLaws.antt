@@ -1,8 +1,8 @@
--- Laws of the rows: all but the last stand below DH, the last at DH, every multiple of the step up to DH is a row, and a height below
--- DH lies between two rows. Assumes nothing.
+-- Laws of the rows: all but the last stand below DH, the last at DH, every multiple of the step up to DH is a row, the rows mirror
+-- where DH is one, and a height below DH lies between two rows. Assumes nothing.
 use Prim.Native.Nat.{ℕ, zero, suc, _+_, _-_, _*_, _/_, _%_, _≤_, _<_}
-use mathlib.Core.Path.{_≡_, refl}
-use native.Mathlib.Nat.{div-add-mod', mod-lt, min-eq-left, min-eq-right, min-le-left, min-le-right, le-min, le-of-lt, le-trans, lt-of-le-of-lt, pos-of-ne-zero, mul-le-mul-right, suc-mul, zero-mul, div-mul-le-self, lt-div-mul-add}
+use mathlib.Core.Path.{_≡_, refl, ap}
+use native.Mathlib.Nat.{div-add-mod', mod-lt, min-eq-left, min-eq-right, min-le-left, min-le-right, le-min, le-of-lt, le-trans, lt-of-le-of-lt, pos-of-ne-zero, mul-le-mul-right, suc-mul, zero-mul, add-mul, div-mul-le-self, lt-div-mul-add}
 use native.Mathlib.Omega.{arith}
 use borrow.Author.Tests.{eq-eqb, ne-eqb}
 use Rattle.laws.specs.OrderLaws.{by-order}
@@ -81,6 +81,13 @@ module _ (dh step : ℕ) (p : 0 < step) where
   pub height-of-multiple : (k : ℕ) → k * step ≤ dh → rowHeight dh step k ≡ k * step
   unfolding rowHeight
   height-of-multiple k h = min-eq-left h
+
+  -- where DH is a number of whole steps, the rows from the bottom up mirror those from the top down
+  pub heights-mirrored : dh % step ≡ 0 → (i j : ℕ) → i + j + 1 ≡ rowCount dh step → rowHeight dh step i + rowHeight dh step j ≡ dh
+  heights-mirrored e i j all =
+      let steps : i + j ≡ dh / step = omega (arith, count-even e) in
+      let whole : i * step + j * step ≡ dh = omega (arith, add-mul i j step, ap (λ (n : ℕ). n * step) steps, whole-steps) in
+      omega (arith, height-of-multiple i (omega arith), height-of-multiple j (omega arith))
 
   -- no row's number of steps passes DH by more than one step
   pub steps-at-most : (i : ℕ) → i < rowCount dh step → i * step ≤ dh + step

@@ -1,0 +1,7 @@
+-- A table turned over (document 02, E7): a part's volume before it is rounded (Exact), what may be turned over and how closely it then agrees
+-- (Mirrored), and the laws: of parts, of a tank, and of a survey and its table.
+pub mod Exact
+pub mod Mirrored
+pub mod PartLaws
+pub mod GrossLaws
+pub mod TableLaws

@@ -1,0 +1,1 @@
+// No code: what is proved of a table turned over, in specs/.
