@@ -4,9 +4,9 @@
 //! A case is made in three steps: a plan of a survey (sound, with diameters at
 //! their limits, with spherical caps as long as can be or longer, with seams or
 //! corrected readings at an edge, with deadwood that makes a row fall, almost fall
-//! or fall below zero, or with exact halves), then none to three kinds of damage to
-//! its bytes, then a length for the table. A case for the converter is made
-//! likewise, in the old format and without a table.
+//! or fall below zero, with exact halves, or for turning its table over), then none
+//! to three kinds of damage to its bytes, then a length for the table. A case for the
+//! converter is made likewise, in the old format and without a table.
 
 pub mod caps;
 pub mod damage;
@@ -15,6 +15,7 @@ pub mod falling;
 pub mod halves;
 pub mod lengths;
 pub mod lookups;
+pub mod mirrored;
 pub mod plan;
 pub mod seams;
 pub mod sound;
@@ -41,15 +42,15 @@ pub fn case(seed: u64, number: u64) -> Case {
             table_len: MOST_ROWS,
         };
     }
-    // A survey with halves is not damaged: refused for something else it would not
-    // come to them.
-    let with_halves = random.one_in(8);
-    let plan = if with_halves {
-        halves::halves(random, Format::TODAY)
-    } else {
-        any_plan(random)
+    // A survey with halves or for turning over is not damaged: refused for something
+    // else it would not come to that.
+    let (plan, whole) = match random.between(1, 40) {
+        1..=5 => (halves::halves(random, Format::TODAY), true),
+        6..=8 => (mirrored::meeting(random), true),
+        9..=11 => (mirrored::breaking(random), true),
+        _ => (any_plan(random), false),
     };
-    let survey = if with_halves {
+    let survey = if whole {
         plan.encode()
     } else {
         encoded(random, &plan)

@@ -1,6 +1,6 @@
 //! A second, independent program for dip tables of level, round tanks.
 //!
-//! It is written from the scope paper and requests E1, E2 and E4 to E6 of the paper
+//! It is written from the scope paper and requests E1, E2 and E4 to E7 of the paper
 //! on later changes alone, and aims at being easy to compare with them, sentence by
 //! sentence. Sentences in quotation marks are taken from the papers. What the
 //! programs print beside that, and their sentences for refusals, are those of
@@ -28,6 +28,7 @@ pub mod heights;
 pub mod limited;
 pub mod limits;
 pub mod lookup;
+pub mod mirrored;
 pub mod misses;
 pub mod numbers;
 pub mod printed;

@@ -79,7 +79,7 @@ fn sound_caps() {
 fn generated_caps() {
     let mut seen = Tally::default();
     let [mut seven_first, mut eight_next] = [0, 0];
-    for number in 0..4_000 {
+    for number in 0..6_000 {
         let case = case(9, number);
         let refusal = outcome(&case.survey, case.table_len).0;
         seen.add(Cap::of_survey(&case.survey, refusal));

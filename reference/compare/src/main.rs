@@ -5,9 +5,10 @@
 //!
 //! `compare TANKTABLE TANKLOOKUP TANKCONVERT FOLDER`: the paths of the programs,
 //! and a folder for the survey given by `-f` and those on which the two differ.
-//! Ends with 1 if they differ anywhere, or if a refusal, a sentence, a miss of
-//! the course lengths, an edge of spherical caps, of seams or of conversions, an
-//! exact half or a row below zero that can occur was seen too seldom.
+//! Ends with 1 if they differ anywhere, if a table of the library's breaks request E7's
+//! law on mirrored rows, or if a refusal, a sentence, a miss of the course lengths, an
+//! edge of spherical caps, of seams or of conversions, an exact half, a row below zero
+//! or a difference of mirrored rows that can occur was seen too seldom.
 
 mod conversions;
 mod lookups;
@@ -15,6 +16,7 @@ mod printed;
 mod run;
 mod seen;
 mod surveys;
+mod turned;
 
 use printed::{Comparison, Programs};
 use std::path::PathBuf;
@@ -23,7 +25,7 @@ use std::path::PathBuf;
 const SURVEYS: u64 = 5_000;
 const LOOKUPS: u64 = 10_000;
 const OLD: u64 = 2_000;
-const PRINTED: u64 = 9_500;
+const PRINTED: u64 = 13_000;
 
 /// How many of the accepted surveys are printed, and how many of the old ones of
 /// a seed are converted by the program.

@@ -1,6 +1,7 @@
 //! Surveys: the whole answer, and every lent cell.
 
 use crate::seen::{print_tally, Seen};
+use crate::turned::Turned;
 use compare::calls::{self, TableAnswer};
 use reference::below_zero::BelowZero;
 use reference::caps::Cap;
@@ -9,6 +10,7 @@ use reference::generate::{case, Case};
 use reference::gross::Tank;
 use reference::halves::falls::Fall;
 use reference::halves::Rounded;
+use reference::mirrored::Pair;
 use reference::misses::Miss;
 use reference::numbers::Half;
 use reference::rises::Rise;
@@ -27,6 +29,17 @@ struct Outcome {
     memory: Vec<u32>,
 }
 
+impl Outcome {
+    fn is_table(&self) -> bool {
+        self.answer.refusal == 0
+    }
+
+    /// The rows of a table.
+    fn rows(&self) -> &[u32] {
+        &self.memory[AROUND..AROUND + self.answer.rows as usize]
+    }
+}
+
 /// What the compared surveys were.
 pub struct Tried {
     refusals: Seen,
@@ -36,6 +49,7 @@ pub struct Tried {
     halves: Tally<(Rounded, Half)>,
     falls: Tally<Fall>,
     below_zero: Tally<BelowZero>,
+    turned: Turned,
 }
 
 impl Tried {
@@ -49,6 +63,7 @@ impl Tried {
             halves: Tally::default(),
             falls: Tally::default(),
             below_zero: Tally::default(),
+            turned: Turned::new(),
         }
     }
 
@@ -81,7 +96,8 @@ impl Tried {
         let halves = print_tally("surveys with exact halves", &self.halves);
         let falls = print_tally("surveys with exact halves at a fall", &self.falls);
         let below_zero = print_tally("surveys with a net row below zero", &self.below_zero);
-        refusals && misses && caps && rises && halves && falls && below_zero
+        let turned = self.turned.print();
+        refusals && misses && caps && rises && halves && falls && below_zero && turned
     }
 }
 
@@ -100,9 +116,18 @@ pub fn compare(seed: u64, cases: u64, folder: &Path, tried: &mut Tried) -> u64 {
             made.as_ref().err().copied(),
         );
         let reference = outcome(&case, |_, table| by_reference(made, table));
-        if ours != reference {
+        // If the two differ in the row count, no cell can be said to be a certain row.
+        let forbidden = match &tank {
+            Ok(tank) if ours.is_table() && ours.answer == reference.answer => {
+                tried.turned.add(tank, ours.rows());
+                Pair::forbidden(tank, ours.rows())
+            }
+            _ => None,
+        };
+        if ours != reference || forbidden.is_some() {
             mismatches += 1;
             report(seed, number, &ours, &reference);
+            report_forbidden(forbidden);
             keep(folder, &format!("survey-{seed}-{number}"), &case.survey);
         }
     }
@@ -146,5 +171,12 @@ fn report(seed: u64, number: u64, ours: &Outcome, reference: &Outcome) {
     if let Some((index, (our, their))) = cells.enumerate().find(|(_, (a, b))| a != b) {
         let cell = index as i64 - AROUND as i64;
         println!("  first at cell {cell}: ours {our}, reference {their}");
+    }
+}
+
+/// Prints a pair of mirrored rows that request E7 forbids, if there is one.
+fn report_forbidden(forbidden: Option<Pair>) {
+    if let Some(Pair { lower, off }) = forbidden {
+        println!("  turned over at {}: off by {off} v", lower.0);
     }
 }

@@ -3,6 +3,16 @@
 
 use crate::limits::{ALLOWANCE_FOR_A_COURSE, COURSE_LENGTH};
 use crate::random::Random;
+use crate::survey::Survey;
+
+/// Gives a survey another shell length, and its courses lengths for that.
+pub fn put_l1(random: &mut Random, survey: &mut Survey, l1: u32) {
+    survey.l1 = l1;
+    let lengths = near_l1(random, l1, survey.courses.len() as u32);
+    for (course, length) in survey.courses.iter_mut().zip(lengths) {
+        course.length = length;
+    }
+}
 
 /// The lengths of so many courses of a shell.
 pub fn near_l1(random: &mut Random, l1: u32, count: u32) -> Vec<u32> {

@@ -96,11 +96,7 @@ fn planned(
     let mut seams = seams(random, courses.len());
     seams::onto_readings(&mut courses, &mut seams, dh);
     let (left, right) = pair_of_outer(random, d2 + wall);
-    let l3 = if kind == limits::SPHERICAL_CAP {
-        caps::sound_length(random, d2)
-    } else {
-        in_limits(random, limits::l3_limits(kind))
-    };
+    let l3 = head_length(random, kind, d2);
     let mut plan = Plan {
         format,
         survey: Survey {
@@ -122,6 +118,15 @@ fn planned(
     plan
 }
 
+/// L3 of heads of a kind.
+pub fn head_length(random: &mut Random, kind: u32, d2: u32) -> u32 {
+    if kind == limits::SPHERICAL_CAP {
+        caps::sound_length(random, d2)
+    } else {
+        in_limits(random, limits::l3_limits(kind))
+    }
+}
+
 /// A number inside limits, often at one of them.
 pub fn in_limits(random: &mut Random, limits: limits::Limits) -> u32 {
     match random.between(1, 6) {
@@ -131,7 +136,7 @@ pub fn in_limits(random: &mut Random, limits: limits::Limits) -> u32 {
     }
 }
 
-fn dip_diameter(random: &mut Random) -> u32 {
+pub fn dip_diameter(random: &mut Random) -> u32 {
     match random.between(1, 40) {
         1 => limits::DH.high,
         2 => random.between(limits::DH.low, limits::DH.high),
@@ -163,7 +168,7 @@ fn l1(random: &mut Random) -> u32 {
     }
 }
 
-fn step(random: &mut Random) -> u32 {
+pub fn step(random: &mut Random) -> u32 {
     match random.between(1, 40) {
         1 => limits::STEP.low,
         2 => random.between(100, 1_000),
@@ -212,7 +217,7 @@ fn deadwood_count(random: &mut Random) -> usize {
 /// Deadwood that hardly ever makes a row fall: what takes room away lies
 /// between an eighth and seven eighths of DH and is small beside the shell
 /// there; what adds room is of any size.
-fn gentle_deadwood(random: &mut Random, plan: &Plan, count: usize) -> Vec<Deadwood> {
+pub fn gentle_deadwood(random: &mut Random, plan: &Plan, count: usize) -> Vec<Deadwood> {
     (0..count)
         .map(|_| match random.between(1, 3) {
             1 => added_room(random, plan.survey.dh),

@@ -51,12 +51,7 @@ const fn filled(d: u32, h: u32) -> Filled {
 pub fn shell(random: &mut Random, format: Format) -> Plan {
     let (part, l1) = straight(random, shell_volume, L1);
     let mut plan = with_row(random, format, part, |d1, d2| [d1, d2]);
-    plan.survey.l1 = l1;
-    let count = plan.survey.courses.len() as u32;
-    let lengths = lengths::near_l1(random, l1, count);
-    for (course, length) in plan.survey.courses.iter_mut().zip(lengths) {
-        course.length = length;
-    }
+    lengths::put_l1(random, &mut plan.survey, l1);
     plan
 }
 
