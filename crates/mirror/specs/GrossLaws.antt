@@ -1,4 +1,4 @@
--- The gross volume of a tank turned over: each part is off by 1 v at most, and their number adds up over a list of parts. Assumes nothing.
+-- The gross volume of a tank turned over: each part is off by 1 v at most, so a list of parts by as many v as it has parts. Assumes nothing.
 use Prim.Native.Nat.{ℕ, _+_, _<_}
 use mathlib.Core.Path.{_≡_, refl}
 use mathlib.Core.Bool.{true}

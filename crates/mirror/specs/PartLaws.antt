@@ -1,5 +1,5 @@
--- Parts turned over. Every part's volume is rounded from its exact one. Before that a cylinder's volumes, and those of half-ellipsoid heads, at two
--- mirrored heights are the full one, exactly, and two cylinders of one diameter laid end to end hold the sum; after it they are off by 1 v at most.
+-- Parts turned over. Every part's volume is rounded from its exact one. Before that the volumes of a cylinder, or of half-ellipsoid heads, at two mirrored
+-- heights are together the full one, exactly, and after it within 1 v. Two cylinders of one diameter laid end to end hold, before rounding, the sum.
 -- Assumes nothing.
 use Prim.Native.Nat.{ℕ, _+_, _*_, _-_, _≤_, _<_}
 use mathlib.Core.Path.{_≡_, refl, sym, _∙_, ap}
