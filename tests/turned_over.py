@@ -6,7 +6,7 @@ whose rows are off by more. Says what was found.
 from surveys import ROOT, TABLE, printed_rows, run, same, tank, try_all
 
 TOLERANCE = 3  # v
-FLAT, HALF_ELLIPSOID = 0, 1
+HALF_ELLIPSOID = 1
 
 
 def misses(table):

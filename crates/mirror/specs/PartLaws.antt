@@ -68,11 +68,11 @@ module _ (d l h r : ℕ) (e : h + r ≡ d) where
       rw (rounded-from-exact s d l h, rounded-from-exact s d l r, rounded-from-exact s d l d, same-under s d l h d, same-under s d l r d, ← over-mirrored s m)
       (record { at-most = near .0; at-least = near .1 })
 
--- head pairs of kind 1, in the paper's words
+-- E7, second law: half-ellipsoid heads filled to H, and filled to D - H, hold together what full ones do, before rounding
 pub half-ellipsoids-mirrored : (d l h : ℕ) → h ≤ d
     → exactHeads HalfEllipsoid d l h ⊕ exactHeads HalfEllipsoid d l (d - h) ≃ exactHeads HalfEllipsoid d l d
 half-ellipsoids-mirrored d l h high = exact-mirrored d l h (d - h) (omega arith) (headPair HalfEllipsoid) refl
 
--- two shells of one diameter laid end to end hold, before rounding, the sum: doubled area · (L + L′)
+-- E7, fourth law: two shells of one diameter laid end to end hold, before rounding, the sum: doubled area · (L + L′)
 pub end-to-end : (d l l′ h : ℕ) → exactCylinder d (l + l′) h ≃ exactCylinder d l h ⊕ exactCylinder d l′ h
 end-to-end d l l′ h = omega arith

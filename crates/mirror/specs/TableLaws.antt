@@ -26,15 +26,15 @@ use Rattle.table.specs.NoDeadwoodLaws.{net-is-gross}
 use Rattle.mirror.specs.Mirrored.{MirroredTank, MirroredSurvey, mirrorTolerance, Around}
 use Rattle.mirror.specs.GrossLaws.{gross-mirrored}
 
--- a survey that is accepted, with D1 = D2 = DH and heads of kind 0 or 1: at every dip height H from 0 to DH, a row's or not, gross at H and gross at DH - H
--- together are the full gross within 3 v. What deadwood takes is not in the gross
+-- E7, third law, of a survey that is accepted, with D1 = D2 = DH and heads of kind 0 or 1: at every dip height H from 0 to DH, a row's or not,
+-- gross at H and gross at DH - H together are the full gross within 3 v. What deadwood takes is not in the gross
 pub survey-mirrored : (s : List ℕ) → decoded s .verdict ≡ Passed → let t = decoded s .survey .tank in let dh = diameterUnits (t .dh) in
     MirroredTank t → (h : ℕ) → h ≤ dh → Around mirrorTolerance (grossAt t h) (grossAt t (dh - h)) (grossAt t dh)
 survey-mirrored s accepted mirrors h high =
     let limits = decoded-fits s accepted in
     gross-mirrored (decoded s .survey .tank) (omega (arith, limits .tank .dh-low)) mirrors h _ (omega arith)
 
--- a table that is made of such a survey, without deadwood; `left` is the lent memory as the call leaves it
+-- .. and of a table that is made of such a survey, without deadwood; `left` is the lent memory as the call leaves it
 module _ (s table : List ℕ) {d1 d2 : Diameter} {rows : ℕ} (answer : made (decoded s) (length table) ≡ Made.Table d1 d2 rows)
     (mirrors : MirroredSurvey (decoded s .survey)) where
   abbrev v : Survey
