@@ -4,7 +4,6 @@ mod common;
 
 use common::*;
 use reference::counted::{Counted, Tally};
-use reference::generate::case;
 use reference::generate::halves::factor_of_half;
 use reference::generate::lookups::{lookup_case, Asked, LookupCase};
 use reference::gross::Tank;
@@ -275,11 +274,7 @@ fn numbers_that_make_halves() {
 fn generated_halves() {
     let mut halves = Tally::default();
     let mut falls = Tally::default();
-    for number in 0..4_000 {
-        let case = case(18, number);
-        let Ok(tank) = lay_out(&case.survey, Format::TODAY, case.table_len) else {
-            continue;
-        };
+    for (_, tank) in generated_tanks(18) {
         falls.add(Fall::of_tank(&tank));
         if table_of_tank(&tank).is_ok() {
             halves.add(Rounded::of_tank(&tank));

@@ -4,7 +4,6 @@ mod common;
 
 use common::*;
 use reference::counted::{Counted, Tally};
-use reference::generate::case;
 use reference::generate::mirrored::{breaking, meeting};
 use reference::gross::Tank;
 use reference::heights::DipHeight;
@@ -140,11 +139,7 @@ fn made_for_it() {
 fn generated_tables() {
     let mut offs = Tally::default();
     let mut far_off = Tally::default();
-    for number in 0..4_000 {
-        let case = case(27, number);
-        let Ok(tank) = lay_out(&case.survey, Format::TODAY, case.table_len) else {
-            continue;
-        };
+    for (number, tank) in generated_tanks(27) {
         let Ok(table) = table_of_tank(&tank) else {
             continue;
         };

@@ -4,10 +4,13 @@
 pub mod paper;
 
 pub use paper::*;
+use reference::generate::case;
+use reference::gross::Tank;
 use reference::rise::Seams;
 use reference::slabs::{Counts, Slabs};
 use reference::survey::{Course, Survey};
-use reference::Refusal;
+use reference::table::lay_out;
+use reference::{Format, Refusal};
 use std::io::Write;
 use std::process::{Command, Output, Stdio};
 
@@ -48,6 +51,15 @@ pub fn told<T>(answer: Result<T, Refusal>) -> (u32, u32) {
         Ok(_) => (0, 0),
         Err(refusal) => (refusal.number, refusal.place),
     }
+}
+
+/// The tanks of a seed's first 4,000 cases, each with its number; some have none.
+pub fn generated_tanks(seed: u64) -> impl Iterator<Item = (u64, Tank)> {
+    (0..4_000).filter_map(move |number| {
+        let case = case(seed, number);
+        let tank = lay_out(&case.survey, Format::TODAY, case.table_len).ok()?;
+        Some((number, tank))
+    })
 }
 
 /// A run of a program with these words and this standard input.
