@@ -6,7 +6,7 @@ use lib.ListN.{length, replicate}
 use Rattle.refusal.specs.declared.Verdict.{Verdict}
 use Rattle.refusal.specs.declared.Verdict.the-variants as verdict
 use Rattle.measure.specs.Quantity.{diameterUnits, dipUnits, volumeUnits}
-use Rattle.survey.specs.declared.fault.Fault.{Fault}
+use Rattle.fault.specs.declared.fault.Fault.{Fault}
 use Rattle.table.specs.declared.make.Made.{Made}
 use Rattle.table.specs.declared.make.Made.the-variants as made
 use Rattle.rewrite.specs.Rewritten.{mostBytes}

@@ -7,7 +7,7 @@ use mathlib.Core.List.{List}
 use lib.ListN.{length, take}
 use Rattle.schedule.specs.Rows.{mostRows}
 use Rattle.refusal.specs.declared.Verdict.the-variants.{Passed}
-use Rattle.survey.specs.Format.{format48}
+use Rattle.file.specs.Format.{format48}
 use Rattle.survey.specs.Survey.{decodedAs, decoded}
 use Rattle.survey.specs.declared.decode.Survey.{Survey}
 use Rattle.table.specs.Answer.{verdictOn, made, tableLeft}

@@ -11,9 +11,9 @@ use Rattle.refusal.specs.declared.Verdict.{Verdict}
 use Rattle.refusal.specs.declared.Verdict.the-variants.{Passed, Refused}
 use Rattle.refusal.specs.Test.{Test, verdict, inUse}
 use Rattle.refusal.specs.NumberLaws.{allInUse, each-numbered, verdict-in-use, unused-is-passed}
-use Rattle.survey.specs.declared.format.Format.{Format}
+use Rattle.file.specs.declared.format.Format.{Format}
 use Rattle.survey.specs.Survey.{decodedAs, decoded}
-use Rattle.survey.specs.Format.{format48, today}
+use Rattle.file.specs.Format.{format48, today}
 use Rattle.table.specs.Answer.{verdictOn, answerBy, made}
 use Rattle.table.specs.NumberedLaws.{refusal-in-use}
 use Rattle.convert.specs.Converted.{convertedBy, converted}

@@ -8,7 +8,7 @@ use convert::Converted;
 use lookup::height::HeightAnswer;
 use lookup::litres::LitresAnswer;
 use refusal::Verdict;
-use rewrite::file::MOST_BYTES;
+use rewrite::rewritten::MOST_BYTES;
 use table::make::Made;
 
 #[repr(C)]

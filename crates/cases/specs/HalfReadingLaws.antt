@@ -14,7 +14,7 @@ use Rattle.heads.specs.Volume.{headsVolume}
 use Rattle.tank.specs.Part.{cylinderVolume}
 use Rattle.deadwood.specs.Item.{deadwood}
 use Rattle.deadwood.specs.Share.{shareSize, share}
-use Rattle.survey.specs.Dimensions.{outerDiameter, wall}
+use Rattle.dimensions.specs.Dimensions.{outerDiameter, wall}
 use Rattle.cases.specs.Reading.{Reading, _reads_, _readsSigned_, Holds}
 use Rattle.cases.specs.HoldLaws.{all-hold}
 

@@ -13,7 +13,7 @@ use Rattle.heads.specs.declared.kind.HeadKind.the-variants.{HalfEllipsoid}
 use Rattle.heads.specs.Volume.{headsVolume}
 use Rattle.deadwood.specs.Item.{deadwood}
 use Rattle.deadwood.specs.Share.{shareSize, share}
-use Rattle.survey.specs.Dimensions.{outerDiameter}
+use Rattle.dimensions.specs.Dimensions.{outerDiameter}
 use Rattle.cases.specs.Reading.{Reading, _reads_, _readsSigned_, Holds}
 use Rattle.cases.specs.HoldLaws.{all-hold}
 

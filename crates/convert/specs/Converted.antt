@@ -7,7 +7,7 @@ use lib.ListN.{length, take, drop, replicate}
 use Rattle.schedule.specs.Rows.{mostRows}
 use Rattle.refusal.specs.declared.Verdict.{Verdict}
 use Rattle.refusal.specs.declared.Verdict.the-variants.{Passed, Refused}
-use Rattle.survey.specs.Format.{format48}
+use Rattle.file.specs.Format.{format48}
 use Rattle.survey.specs.Survey.{decodedAs, decoded}
 use Rattle.rewrite.specs.Rewritten.{rewritten, mostBytes}
 use Rattle.table.specs.Answer.{verdictOn, made, tableLeft}

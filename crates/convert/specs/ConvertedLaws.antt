@@ -10,7 +10,7 @@ use Rattle.refusal.specs.declared.Verdict.{Verdict}
 use Rattle.refusal.specs.declared.Verdict.the-variants.{Passed, Refused}
 use Rattle.refusal.specs.Test.{verdict}
 use Rattle.refusal.specs.TestLaws.{refused-not-passed, passed-both}
-use Rattle.survey.specs.Format.{format48}
+use Rattle.file.specs.Format.{format48}
 use Rattle.survey.specs.Survey.{decodedAs, decoded}
 use Rattle.rewrite.specs.Rewritten.{rewritten, mostBytes}
 use Rattle.rewrite.specs.RewrittenLaws.{rewritten-fits, rewritten-decoded}

@@ -3,14 +3,14 @@
 ghost use mathlib.Core.Path.{_≡_};
 ghost use mathlib.Core.List.{List};
 ghost use Prim.Native.Nat.{ℕ};
-ghost use Rattle.survey.specs.Format.{format48};
+ghost use Rattle.file.specs.Format.{format48};
 ghost use Rattle.survey.specs.Survey.{decodedAs};
 ghost use Rattle.refusal.specs.declared.Verdict.{Verdict};
 ghost use Rattle.convert.specs.Converted.{convertedBy, converted, Keeps};
 use refusal::Refusal;
 use refusal::Verdict;
-use rewrite::file::MOST_BYTES;
-use rewrite::file::put_rewritten;
+use rewrite::rewritten::MOST_BYTES;
+use rewrite::rewritten::put_rewritten;
 use survey::decode::decode_48;
 use table::judge::judged;
 

@@ -9,9 +9,9 @@ use Rattle.schedule.specs.Rows.{rowHeight}
 use Rattle.refusal.specs.declared.Refusal.{Refusal}
 use Rattle.refusal.specs.declared.Verdict.{Verdict}
 use Rattle.refusal.specs.declared.Verdict.the-variants as verdicts
-use Rattle.survey.specs.declared.fault.Fault.{Fault}
-use Rattle.survey.specs.Format.{format48}
-use Rattle.survey.specs.Fault.{faultAs, faultOf}
+use Rattle.fault.specs.declared.fault.Fault.{Fault}
+use Rattle.file.specs.Format.{format48}
+use Rattle.fault.specs.Fault.{faultAs, faultOf}
 use Rattle.convert.specs.declared.Converted.{Converted}
 use Rattle.convert.specs.Converted.{fileIn}
 use Rattle.lookup.specs.declared.litres.LitresAnswer.{LitresAnswer}

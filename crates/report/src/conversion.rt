@@ -7,8 +7,8 @@ ghost use Rattle.report.specs.Report.{conversionText, conversionWords};
 use crate::Said;
 use crate::refused::refused_said;
 use convert::convert_48;
+use fault::fault::fault_of_48;
 use refusal::Verdict;
-use survey::fault::fault_of_48;
 use text::put::put_first;
 
 // What is said of a file with a header of 48 bytes. A memory of rewrite's MOST_BYTES and one of ERR_SIZE bytes have room for all of it.

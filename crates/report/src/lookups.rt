@@ -10,14 +10,14 @@ ghost use Rattle.report.specs.Report.{askedFault, litresText, litresWord
 use crate::LINE_SIZE;
 use crate::Said;
 use crate::refused::refused_said;
+use fault::fault::Fault;
+use fault::fault::fault_of;
 use lookup::delivered::DeliveredAnswer;
 use lookup::height::HeightAnswer;
 use lookup::litres::LitresAnswer;
 use measure::dip_height::DipHeight;
 use measure::volume::Volume;
 use refusal::Refusal;
-use survey::fault::Fault;
-use survey::fault::fault_of;
 use survey_lookup::Tabled;
 use survey_lookup::delivered_in;
 use survey_lookup::height_in;

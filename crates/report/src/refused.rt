@@ -4,8 +4,8 @@ ghost use Rattle.text.specs.Lines.{lineSize};
 ghost use Rattle.wording.specs.Sentences.{faultSize, faultLine};
 ghost use Rattle.report.specs.Report.{refusedText};
 use crate::Said;
+use fault::fault::Fault;
 use refusal::Refusal;
-use survey::fault::Fault;
 use text::line::refused_line;
 use wording::put_fault;
 

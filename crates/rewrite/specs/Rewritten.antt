@@ -6,11 +6,11 @@ use mathlib.Core.List.{List, [], _∷_, _++_}
 use lib.Dec.{eqb}
 use lib.ListN.{take, drop, replicate}
 use Rattle.laws.specs.Order.{pick}
-use Rattle.survey.specs.declared.section.Section.{Section}
-use Rattle.survey.specs.Word.{bytesOf}
-use Rattle.survey.specs.Layout.{coursesAt}
-use Rattle.survey.specs.Format.{format48, today}
-use Rattle.survey.specs.Section.{courses, deadwood}
+use Rattle.file.specs.declared.section.Section.{Section}
+use Rattle.file.specs.Word.{bytesOf}
+use Rattle.file.specs.Layout.{coursesAt}
+use Rattle.file.specs.Format.{format48, today}
+use Rattle.file.specs.Section.{courses, deadwood}
 
 -- where the deadwood starts behind so many courses, and where the seams start behind these and so many items
 abbrev pub deadwoodFrom : ℕ → ℕ

@@ -17,19 +17,23 @@ use Rattle.heads.specs.Kind.{kindKnown}
 use Rattle.deadwood.specs.Item.{mostItems}
 use Rattle.seams.specs.Seam.{noSeam}
 use Rattle.seams.specs.Rise.{tapeRise}
-use Rattle.survey.specs.declared.section.Section.{Section}
-use Rattle.survey.specs.Word.{word}
-use Rattle.survey.specs.Layout.{kindAt, dhAt, coursesAt, courseEnd, itemEnd, seamEnd, seamNumberIn, seamThicknessIn, seamWidthIn}
-use Rattle.survey.specs.Format.{format48, today}
-use Rattle.survey.specs.Limits.{largestFile, mostCourses}
-use Rattle.survey.specs.Section.{courses, deadwood, seams, sections, recordAt, endOf, placed, apart}
-use Rattle.survey.specs.SectionLaws.{Inside, Placed}
-use Rattle.survey.specs.Reading.{seamOf, riseOf}
-use Rattle.survey.specs.Tests.{layoutTests, headerTests, courseTests, itemTests, seamTests, sectionTests, sectionsTests, limitTests, readingTests, correctedTests, numberTests, dimensionTests, fileTests}
+use Rattle.file.specs.declared.section.Section.{Section}
+use Rattle.file.specs.Word.{word}
+use Rattle.file.specs.Layout.{kindAt, dhAt, coursesAt, courseEnd, itemEnd, seamEnd, seamNumberIn, seamThicknessIn, seamWidthIn}
+use Rattle.file.specs.Format.{format48, today}
+use Rattle.file.specs.Limits.{largestFile, mostCourses}
+use Rattle.file.specs.Section.{courses, deadwood, seams, sections, recordAt, endOf, placed, apart}
+use Rattle.file.specs.SectionLaws.{Inside, Placed}
+use Rattle.numbers.specs.Reading.{seamOf, riseOf}
+use Rattle.file.specs.Tests.{layoutTests}
+use Rattle.numbers.specs.Tests.{headerTests, courseTests, itemTests, seamTests, sectionTests, sectionsTests, limitTests, readingTests, correctedTests, numberTests}
+use Rattle.dimensions.specs.Tests.{dimensionTests}
+use Rattle.survey.specs.Tests.{fileTests}
 use Rattle.survey.specs.Survey.{decodedBy, decodedAs, decoded}
-use Rattle.survey.specs.FitLaws.{NumbersFit, as-they-stand, header-passed, course-passes, item-passes, reading-passes}
+use Rattle.numbers.specs.FitLaws.{NumbersFit, as-they-stand, header-passed, course-passes, item-passes, reading-passes}
 use Rattle.survey.specs.NumberedLaws.{decoded-as-verdict}
-use Rattle.survey.specs.SurveyLaws.{format48-readable, passed-file}
+use Rattle.file.specs.FormatLaws.{format48-readable}
+use Rattle.survey.specs.SurveyLaws.{passed-file}
 use Rattle.rewrite.specs.Rewritten.{deadwoodFrom, seamsFrom, offsetOf, coursesWords, deadwoodWords, seamsWords, sectionBytes, headerOf, noSeams, rewritten, mostBytes}
 use Rattle.rewrite.specs.WordLaws.{word-front, word-behind, word-of-part, word-of-zeros, EachSmall, word-of-words}
 use Rattle.rewrite.specs.SameLaws.{SameRecords, SameNumbers, same-survey, same-header-tests, same-dimension-tests, course-passes-too, reading-passes-too, item-passes-too}

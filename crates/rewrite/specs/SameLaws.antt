@@ -11,16 +11,18 @@ use Rattle.refusal.specs.declared.Verdict.the-variants.{Passed}
 use Rattle.refusal.specs.Test.{verdict}
 use Rattle.refusal.specs.TestLaws.{passed-all}
 use Rattle.deadwood.specs.Item.{heightsFit, volumeFits}
-use Rattle.survey.specs.declared.format.Format.{Format}
-use Rattle.survey.specs.declared.section.Section.{Section}
-use Rattle.survey.specs.Word.{word, signedWord}
-use Rattle.survey.specs.Layout.{kindAt, dhAt, l1At, leftAt, rightAt, l2At, l3At, stepAt, coursesAt, firstIn, secondIn, lengthIn, thicknessIn, lowIn, highIn, volumeIn, courseEnd, itemEnd}
-use Rattle.survey.specs.Section.{courses, deadwood, recordAt}
-use Rattle.survey.specs.Item.{itemFrom}
-use Rattle.survey.specs.Reading.{riseOf}
-use Rattle.survey.specs.Dimensions.{sumOf, sumsOver, sumsOf, shellDiameter, d1, d2}
-use Rattle.survey.specs.Tests.{headerTests, courseTests, itemTests, readingTests, dimensionTests}
-use Rattle.survey.specs.Survey.{itemsOf, surveyOf}
+use Rattle.file.specs.declared.format.Format.{Format}
+use Rattle.file.specs.declared.section.Section.{Section}
+use Rattle.file.specs.Word.{word, signedWord}
+use Rattle.file.specs.Layout.{kindAt, dhAt, l1At, leftAt, rightAt, l2At, l3At, stepAt, coursesAt, firstIn, secondIn, lengthIn, thicknessIn, lowIn, highIn, volumeIn, courseEnd, itemEnd}
+use Rattle.file.specs.Section.{courses, deadwood, recordAt}
+use Rattle.numbers.specs.Item.{itemFrom}
+use Rattle.numbers.specs.Reading.{riseOf}
+use Rattle.dimensions.specs.Dimensions.{sumOf, sumsOver, sumsOf, shellDiameter, d1, d2}
+use Rattle.numbers.specs.Tests.{headerTests, courseTests, itemTests, readingTests}
+use Rattle.dimensions.specs.Tests.{dimensionTests}
+use Rattle.numbers.specs.Item.{itemsOf}
+use Rattle.survey.specs.Survey.{surveyOf}
 
 -- records of two sections have the same words, up to so many bytes
 abbrev pub SameRecords : (s t : List ℕ) (x y : Section) (long : ℕ) → Type 0

@@ -8,7 +8,7 @@ use native.Mathlib.Omega.{arith}
 use lib.ListN.{length, getD, take, drop, replicate, length-replicate, getD-replicate, List·getD-append, List·getD-eq-default}
 use lib.Seq.{getD-append-add, getD-take, getD-drop}
 use Rattle.laws.specs.OrderLaws.{by-order}
-use Rattle.survey.specs.Word.{word, wordBytes, bytesOf}
+use Rattle.file.specs.Word.{word, wordBytes, bytesOf}
 
 -- four bytes that agree give the same number
 word-by-bytes : (s t : List ℕ) (a b : ℕ) → ((k : ℕ) → k < 4 → getD s (a + k) 0 ≡ getD t (b + k) 0) → word s a ≡ word t b

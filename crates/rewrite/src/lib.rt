@@ -1,3 +1,3 @@
 // A file with a header of 48 bytes written anew in today's format, with the same survey.
-pub mod file;
 mod put;
+pub mod rewritten;

@@ -1,7 +1,7 @@
 // Numbers and zeros put into lent memory as a survey file holds them.
 ghost use mathlib.Core.List.{[], _∷_};
 ghost use lib.ListN.{replicate};
-ghost use Rattle.survey.specs.Word.{wordBytes, bytesOf};
+ghost use Rattle.file.specs.Word.{wordBytes, bytesOf};
 ghost use Rattle.text.specs.Put.{Put};
 use text::put::put_byte;
 

@@ -1,30 +1,29 @@
 -- What a file that refusals 6, 7 and 14 can be given to promises, and that its D1 fits 64 bits with a sign and its D2 32 bits. Assumes nothing.
-use Prim.Native.Nat.{ℕ, _+_, _*_, _^_, _≤_, _<_}
+use Prim.Native.Nat.{ℕ, _+_}
 use mathlib.Core.Path.{_≡_, refl, sym, _∙_}
 use mathlib.Core.Bool.{true, _&&_}
 use mathlib.Core.List.{List, _++_}
-use native.Mathlib.Nat.{mul-le-mul-left}
-use native.Mathlib.Omega.{arith}
 use lib.ListN.{length}
 use Rattle.laws.specs.BoolLaws.{true-not-false, both-pass}
-use Rattle.laws.specs.NearestLaws.{nearest-at-most}
-use Rattle.measure.specs.Pi.{piOver, piUnder}
 use Rattle.refusal.specs.declared.Verdict.{Verdict}
 use Rattle.refusal.specs.declared.Verdict.the-variants.{Passed, Refused}
 use Rattle.refusal.specs.Test.{verdict, within}
 use Rattle.refusal.specs.TestLaws.{verdict-append, passed-all}
 use Rattle.heads.specs.Kind.{kindKnown}
-use Rattle.survey.specs.declared.format.Format.{Format}
-use Rattle.survey.specs.Word.{word}
-use Rattle.survey.specs.Layout.{kindAt, leftAt, rightAt}
-use Rattle.survey.specs.Format.{today}
-use Rattle.survey.specs.Limits.{largestFile}
-use Rattle.survey.specs.Dimensions.{sumsOf, outerDiameter, shellDiameter, headDiameter, d1, d2}
-use Rattle.survey.specs.Tests.{layoutTests, limitTests, correctedTests, numberTests, dimensionTests, fileTests}
+use Rattle.file.specs.declared.format.Format.{Format}
+use Rattle.file.specs.Word.{word}
+use Rattle.file.specs.Layout.{kindAt}
+use Rattle.file.specs.Format.{today}
+use Rattle.file.specs.Limits.{largestFile}
+use Rattle.file.specs.Tests.{layoutTests}
+use Rattle.file.specs.FormatLaws.{Readable}
+use Rattle.file.specs.SectionLaws.{placed-file}
+use Rattle.numbers.specs.Tests.{limitTests, correctedTests, numberTests}
+use Rattle.numbers.specs.FitLaws.{LimitsFit, NumbersFit}
+use Rattle.dimensions.specs.Tests.{dimensionTests}
+use Rattle.survey.specs.Tests.{fileTests}
 use Rattle.survey.specs.Survey.{decoded}
-use Rattle.survey.specs.Fault.{passed, limitsPass, numbersPass}
-use Rattle.survey.specs.SectionLaws.{Readable, placed-file}
-use Rattle.survey.specs.FitLaws.{LimitsFit, NumbersFit, as-they-stand, file-sums-fit, ends-fit}
+use Rattle.survey.specs.Passed.{passed, limitsPass, numbersPass}
 use Rattle.survey.specs.NumberedLaws.{decoded-verdict}
 
 pub passed-verdict : (v : Verdict) → passed v ≡ true → v ≡ Passed
@@ -76,21 +75,3 @@ module _ (f : Format) (s : List ℕ) (e : numbersPass f s ≡ true) where
 -- .. on a file in today's format
 pub decoded-by-dimensions : (s : List ℕ) → numbersPass today s ≡ true → decoded s .verdict ≡ verdict (dimensionTests today s)
 decoded-by-dimensions s e = decoded-verdict s ∙ dimensions-decide today s e
-
--- D1 and D2 are no more than what they are made of
-
-outer-at-most : (readings lengths : ℕ) → 1 ≤ lengths → outerDiameter readings lengths ≤ piUnder * readings
-unfolding outerDiameter
-outer-at-most readings lengths some =
-    let dividend = piUnder * readings in
-    let divisor : 1 ≤ 2 * piOver * lengths = omega arith in
-    nearest-at-most dividend dividend (2 * piOver * lengths) divisor (omega (arith, mul-le-mul-left dividend divisor))
-
-pub diameters-small : (f : Format) (s : List ℕ) → NumbersFit f s → (d1 f s < 2 ^ 63) × (d2 f s < 2 ^ 32)
-unfolding shellDiameter headDiameter
-diameters-small f s fit =
-    let sums = file-sums-fit f s fit in
-    let ends = word s leftAt + word s rightAt in (
-      omega (arith, sums .0 .readings, outer-at-most (sumsOf f s .readings) (sumsOf f s .lengths) (sums .1)),
-      omega (arith, ends-fit f s (as-they-stand f s fit), outer-at-most ends 1 (omega arith)),
-    )

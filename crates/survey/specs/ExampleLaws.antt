@@ -14,13 +14,16 @@ use Rattle.heads.specs.declared.kind.HeadKind.{HeadKind}
 use Rattle.heads.specs.declared.kind.HeadKind.the-variants.{Flat, SphericalCap}
 use Rattle.heads.specs.Kind.{kindKnown, kindOf}
 use Rattle.heads.specs.Length.{lengthFits}
-use Rattle.survey.specs.declared.decode.Survey.{Survey}
 use Rattle.seams.specs.Rise.{firstTerm, secondTerm, tapeRise}
-use Rattle.survey.specs.Word.{word, signedWord, bytesOf}
-use Rattle.survey.specs.Section.{placed, apart}
-use Rattle.survey.specs.Reading.{riseOf}
-use Rattle.survey.specs.Dimensions.{sumOf, sumsOver, lengthsFit, outerDiameter, wall, shellDiameter, headDiameter, diameterFits}
-use Rattle.survey.specs.Tests.{layoutTests, headerTests, courseTests, itemTests, seamTests, readingTests, dimensionTests, fileTests}
+use Rattle.file.specs.Word.{word, signedWord, bytesOf}
+use Rattle.file.specs.Section.{placed, apart}
+use Rattle.file.specs.Tests.{layoutTests}
+use Rattle.numbers.specs.Reading.{riseOf}
+use Rattle.numbers.specs.Tests.{headerTests, courseTests, itemTests, seamTests, readingTests}
+use Rattle.dimensions.specs.Dimensions.{sumOf, sumsOver, lengthsFit, outerDiameter, wall, shellDiameter, headDiameter, diameterFits}
+use Rattle.dimensions.specs.Tests.{dimensionTests}
+use Rattle.survey.specs.declared.decode.Survey.{Survey}
+use Rattle.survey.specs.Tests.{fileTests}
 use Rattle.survey.specs.Survey.{noItems, decodedBy, decoded}
 
 -- a course of this length, as round and as thick

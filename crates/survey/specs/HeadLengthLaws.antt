@@ -1,33 +1,27 @@
 -- Refusal 14 in document 02's words (E2): a file that passes refusals 1 to 7 gets it exactly when its heads are spherical caps and twice their
--- length exceeds D2; and the limits that it names are those of that test. Assumes nothing.
-use Prim.Native.Nat.{ℕ, zero, suc, _*_, _/_, _<_}
+-- length exceeds D2. Assumes nothing.
+use Prim.Native.Nat.{ℕ, zero, suc, _*_, _<_}
 use mathlib.Core.Path.{_≡_, refl, sym, _∙_}
 use mathlib.Core.Bool.{Bool, true, false}
 use mathlib.Core.List.{List}
 use native.Mathlib.Omega.{arith}
 use borrow.Author.Tests.{leb-true, leb-false, lt-leb}
-use lib.Dec.{leb}
-use lib.IntN.{natAbs}
-use Rattle.laws.specs.BoolLaws.{true-not-false, both-pass}
+use Rattle.laws.specs.BoolLaws.{true-not-false}
 use Rattle.laws.specs.Exactly.{Exactly}
 use Rattle.laws.specs.Order.{pick}
-use Rattle.laws.specs.OrderLaws.{same-order}
 use Rattle.refusal.specs.declared.Refusal.{Refusal}
 use Rattle.refusal.specs.declared.Verdict.the-variants.{Passed, Refused}
-use Rattle.refusal.specs.Test.{refusal, within}
+use Rattle.refusal.specs.Test.{refusal}
 use Rattle.refusal.specs.TestLaws.{refused-not-passed}
-use Rattle.heads.specs.declared.kind.HeadKind.the-variants.{SphericalCap}
 use Rattle.heads.specs.Kind.{kindKnown, kindOf}
-use Rattle.heads.specs.Length.{longest, lengthFits, fitsDiameter}
-use Rattle.survey.specs.declared.format.Format.{Format}
-use Rattle.survey.specs.Word.{word}
-use Rattle.survey.specs.Layout.{kindAt, dhAt, l1At, l3At}
-use Rattle.survey.specs.Format.{today}
-use Rattle.survey.specs.Dimensions.{sumsOf, lengthsFit, d1, d2, diametersFit}
-use Rattle.survey.specs.Tests.{dimensionTests}
+use Rattle.heads.specs.Length.{fitsDiameter}
+use Rattle.file.specs.Word.{word}
+use Rattle.file.specs.Layout.{kindAt, dhAt, l1At, l3At}
+use Rattle.file.specs.Format.{today}
+use Rattle.dimensions.specs.Dimensions.{sumsOf, lengthsFit, d1, d2, diametersFit}
+use Rattle.dimensions.specs.Tests.{dimensionTests}
 use Rattle.survey.specs.Survey.{decoded}
-use Rattle.survey.specs.Fault.{numbersPass, headLengthFault}
-use Rattle.survey.specs.FitLaws.{LimitsFit, head-length-fits}
+use Rattle.survey.specs.Passed.{numbersPass}
 use Rattle.survey.specs.DimensionLaws.{kind-known, decoded-by-dimensions}
 
 -- by the number of the kind: no other kind is too long for D2
@@ -58,13 +52,3 @@ module _ (s : List ℕ) (numbers : numbersPass today s ≡ true) (lengths : leng
         only-when = λ h. exactly .only-when (refused-last fits (refusal 14 0) (sym decides ∙ h));
         whenever = λ h. decides ∙ rw (exactly .whenever h);
       }
-
--- the limits that refusal 14 names are those of the test
-pub head-length-limits-are-tested : (f : Format) (s : List ℕ) → LimitsFit f s → kindOf (word s kindAt) ≡ SphericalCap
-    → let r = headLengthFault f s in
-    fitsDiameter SphericalCap (d2 f s) (word s l3At) ≡ within (natAbs (r .low)) (natAbs (r .value)) (natAbs (r .high))
-unfolding lengthFits headLengthFault
-head-length-limits-are-tested f s fit cap =
-    let l = word s l3At in
-    let some = both-pass (leb 1 l) (leb l longest) (rw cap at (head-length-fits f s fit)) .0 in
-    rw some (same-order (2 * l) (d2 f s) l (d2 f s / 2) (λ k. omega arith) (λ k. omega arith))

@@ -17,25 +17,27 @@ use Rattle.refusal.specs.TestLaws.{items-agree}
 use Rattle.heads.specs.Kind.{kindKnown}
 use Rattle.seams.specs.Seam.{noSeam}
 use Rattle.seams.specs.Rise.{tapeRise}
-use Rattle.survey.specs.declared.format.Format.{Format}
-use Rattle.survey.specs.declared.section.Section.{Section}
-use Rattle.survey.specs.declared.section.Records.{Records}
-use Rattle.survey.specs.declared.section.Records.the-variants.{Courses, Deadwood, Seams}
-use Rattle.survey.specs.Word.{word, signedWord}
-use Rattle.survey.specs.Layout.{headerEnd, kindAt, dhAt, l1At, leftAt, rightAt, l2At, l3At, stepAt, coursesAt, deadwoodAt, seamsAt}
-use Rattle.survey.specs.Format.{today}
-use Rattle.survey.specs.Layout.{seamHeaderEnd, courseEnd, itemEnd, seamEnd, firstIn, secondIn, lengthIn, thicknessIn, lowIn, highIn, volumeIn}
-use Rattle.survey.specs.Layout.{seamNumberIn, seamThicknessIn, seamWidthIn, hasSeams}
-use Rattle.survey.specs.Limits.{largestFile}
-use Rattle.survey.specs.Section.{courses, deadwood, seamWord, seams, sections, recordAt, endOf, placed, recordLong}
-use Rattle.survey.specs.SectionLaws.{Readable}
-use Rattle.survey.specs.Item.{itemFrom}
-use Rattle.survey.specs.Reading.{seamFrom, seamOf, riseOf}
-use Rattle.survey.specs.Dimensions.{sumOf, added, sumsOver, sumsOf, shellDiameter, d1, d2}
-use Rattle.survey.specs.Tests.{countTests, apartTests, placeTests, layoutTests, headerTests, limitTests, correctedTests, numberTests, dimensionTests, fileTests}
-use Rattle.survey.specs.Tests.{courseTests, itemTests, seamTests, readingTests, recordTests, sectionTests}
-use Rattle.survey.specs.Survey.{itemsOf, surveyOf, decodedBy, decodedAs, decoded}
-use Rattle.survey.specs.SurveyLaws.{today-readable}
+use Rattle.file.specs.declared.format.Format.{Format}
+use Rattle.file.specs.declared.section.Section.{Section}
+use Rattle.file.specs.declared.section.Records.{Records}
+use Rattle.file.specs.declared.section.Records.the-variants.{Courses, Deadwood, Seams}
+use Rattle.file.specs.Word.{word, signedWord}
+use Rattle.file.specs.Layout.{headerEnd, kindAt, dhAt, l1At, leftAt, rightAt, l2At, l3At, stepAt, coursesAt, deadwoodAt, seamsAt}
+use Rattle.file.specs.Format.{today}
+use Rattle.file.specs.Layout.{seamHeaderEnd, courseEnd, itemEnd, seamEnd, firstIn, secondIn, lengthIn, thicknessIn, lowIn, highIn, volumeIn}
+use Rattle.file.specs.Layout.{seamNumberIn, seamThicknessIn, seamWidthIn, hasSeams}
+use Rattle.file.specs.Limits.{largestFile}
+use Rattle.file.specs.Section.{courses, deadwood, seamWord, seams, sections, recordAt, endOf, placed, recordLong}
+use Rattle.file.specs.FormatLaws.{Readable, today-readable}
+use Rattle.file.specs.Tests.{countTests, apartTests, placeTests, layoutTests}
+use Rattle.numbers.specs.Item.{itemFrom, itemsOf}
+use Rattle.numbers.specs.Reading.{seamFrom, seamOf, riseOf}
+use Rattle.numbers.specs.Tests.{headerTests, limitTests, correctedTests, numberTests}
+use Rattle.numbers.specs.Tests.{courseTests, itemTests, seamTests, readingTests, recordTests, sectionTests}
+use Rattle.dimensions.specs.Dimensions.{sumOf, added, sumsOver, sumsOf, shellDiameter, d1, d2}
+use Rattle.dimensions.specs.Tests.{dimensionTests}
+use Rattle.survey.specs.Tests.{fileTests}
+use Rattle.survey.specs.Survey.{surveyOf, decodedBy, decodedAs, decoded}
 
 -- two files agree in the bytes from one place up to another
 abbrev pub SameBytes : (s s′ : List ℕ) (start end : ℕ) → Type 0

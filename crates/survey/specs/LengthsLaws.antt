@@ -1,5 +1,5 @@
 -- Refusal 6 in document 02's words (E1): a file that passes refusals 1 to 5 gets it exactly when the sum of the course lengths and L1 differ
--- by more than 100 u for each course; and the limits that it names are those of that test. Assumes nothing.
+-- by more than 100 u for each course. Assumes nothing.
 use Prim.Native.Nat.{ℕ, _+_, _*_, _-_, _<_}
 use mathlib.Core.Path.{_≡_, refl, sym, _∙_, ap}
 use mathlib.Core.Bool.{Bool, true, false}
@@ -7,27 +7,26 @@ use mathlib.Core.List.{List}
 use native.Mathlib.Omega.{arith}
 use borrow.Author.Tests.{leb-false, lt-leb, le-leb}
 use lib.Dec.{leb}
-use lib.IntN.{natAbs}
 use Rattle.laws.specs.Exactly.{Exactly}
 use Rattle.laws.specs.Order.{pick}
 use Rattle.refusal.specs.declared.Verdict.{Verdict}
 use Rattle.refusal.specs.declared.Verdict.the-variants.{Passed, Refused}
-use Rattle.refusal.specs.Test.{refusal, within}
-use Rattle.refusal.specs.TestLaws.{near-difference, near-within}
+use Rattle.refusal.specs.Test.{refusal}
+use Rattle.refusal.specs.TestLaws.{near-difference}
 use Rattle.heads.specs.Kind.{kindOf}
 use Rattle.heads.specs.Length.{fitsDiameter}
-use Rattle.survey.specs.declared.dimensions.Sums.{Sums}
-use Rattle.survey.specs.declared.format.Format.{Format}
-use Rattle.survey.specs.Word.{word}
-use Rattle.survey.specs.Layout.{kindAt, dhAt, l1At, l3At}
-use Rattle.survey.specs.Format.{today}
-use Rattle.survey.specs.Section.{courses}
-use Rattle.survey.specs.Dimensions.{sumsOf, allowance, lengthsFit, d1, d2, diametersFit}
-use Rattle.survey.specs.Tests.{dimensionTests}
+use Rattle.file.specs.declared.format.Format.{Format}
+use Rattle.file.specs.Word.{word}
+use Rattle.file.specs.Layout.{kindAt, dhAt, l1At, l3At}
+use Rattle.file.specs.Format.{today}
+use Rattle.file.specs.Section.{courses}
+use Rattle.file.specs.FormatLaws.{today-readable}
+use Rattle.dimensions.specs.declared.dimensions.Sums.{Sums}
+use Rattle.dimensions.specs.Dimensions.{sumsOf, allowance, lengthsFit, d1, d2, diametersFit}
+use Rattle.dimensions.specs.Tests.{dimensionTests}
+use Rattle.dimensions.specs.SumLaws.{file-sums}
 use Rattle.survey.specs.Survey.{decoded}
-use Rattle.survey.specs.Fault.{numbersPass, lengthsFault}
-use Rattle.survey.specs.FitLaws.{file-sums}
-use Rattle.survey.specs.SurveyLaws.{today-readable}
+use Rattle.survey.specs.Passed.{numbersPass}
 use Rattle.survey.specs.DimensionLaws.{numbers-pass, decoded-by-dimensions}
 
 -- by how much the sum of the course lengths misses L1, whichever is the larger
@@ -76,9 +75,3 @@ module _ (s : List ℕ) (e : numbersPass today s ≡ true) where
 pub exact-lengths-fit : (t : Sums) → lengthsFit t (t .lengths) ≡ true
 unfolding lengthsFit
 exact-lengths-fit t = rw (le-leb (t .lengths) (t .lengths + allowance t) (omega arith))
-
--- the limits that refusal 6 names are those of the test
-pub lengths-limits-are-tested : (f : Format) (s : List ℕ)
-    → let r = lengthsFault f s in lengthsFit (sumsOf f s) (word s l1At) ≡ within (natAbs (r .low)) (natAbs (r .value)) (natAbs (r .high))
-unfolding lengthsFit lengthsFault
-lengths-limits-are-tested f s = let t = sumsOf f s in near-within (t .lengths) (word s l1At) (allowance t)

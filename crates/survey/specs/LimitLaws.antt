@@ -4,9 +4,9 @@ use mathlib.Core.Path.{_≡_}
 use lib.IntN.{natAbs}
 use lib.ListN.{length}
 use Rattle.measure.specs.Quantity.{diameterUnits, dipUnits}
+use Rattle.deadwood.specs.Item.{itemAt}
 use Rattle.heads.specs.declared.kind.HeadKind.the-variants.{SphericalCap}
 use Rattle.heads.specs.LengthLaws.{cap-limits}
-use Rattle.deadwood.specs.Item.{itemAt}
 use Rattle.survey.specs.declared.decode.Survey.{Survey}
 use Rattle.survey.specs.Survey.{itemsIn}
 use Rattle.survey.specs.SurveyLaws.{SurveyLimits}

@@ -7,16 +7,19 @@ use Rattle.refusal.specs.declared.Verdict.the-variants.{Passed, Refused}
 use Rattle.refusal.specs.Test.{verdict}
 use Rattle.refusal.specs.EachLaws.{Each, each-append, each-item}
 use Rattle.refusal.specs.NumberLaws.{Numbered, InUse, each-numbered, verdict-in-use}
-use Rattle.survey.specs.declared.format.Format.{Format}
-use Rattle.survey.specs.declared.section.Section.{Section}
-use Rattle.survey.specs.declared.section.Records.{Records}
-use Rattle.survey.specs.declared.section.Records.the-variants.{Courses, Deadwood, Seams}
+use Rattle.file.specs.declared.format.Format.{Format}
+use Rattle.file.specs.declared.section.Section.{Section}
+use Rattle.file.specs.declared.section.Records.{Records}
+use Rattle.file.specs.declared.section.Records.the-variants.{Courses, Deadwood, Seams}
+use Rattle.file.specs.Format.{today}
+use Rattle.file.specs.Section.{courses, sections, recordAt}
+use Rattle.file.specs.Tests.{layoutTests}
+use Rattle.numbers.specs.Reading.{riseOf}
+use Rattle.numbers.specs.Tests.{headerTests, courseTests, itemTests, seamTests, readingTests, recordTests, sectionTests, sectionsTests}
+use Rattle.numbers.specs.Tests.{limitTests, correctedTests, numberTests}
+use Rattle.dimensions.specs.Tests.{dimensionTests}
 use Rattle.survey.specs.declared.decode.Survey.{Survey}
-use Rattle.survey.specs.Format.{today}
-use Rattle.survey.specs.Section.{courses, sections, recordAt}
-use Rattle.survey.specs.Reading.{riseOf}
-use Rattle.survey.specs.Tests.{layoutTests, headerTests, courseTests, itemTests, seamTests, readingTests, recordTests, sectionTests, sectionsTests}
-use Rattle.survey.specs.Tests.{limitTests, correctedTests, numberTests, dimensionTests, fileTests}
+use Rattle.survey.specs.Tests.{fileTests}
 use Rattle.survey.specs.Survey.{surveyOf, decodedBy, decodedAs, decoded}
 
 record-numbered : (records : Records) (s : List ℕ) (at : ℕ) → Each Numbered (recordTests records s at)

@@ -3,26 +3,25 @@
 use Prim.Native.Nat.{ℕ}
 use mathlib.Core.List.{List, _++_}
 use lib.ListN.{take, drop, replicate}
-use Rattle.laws.specs.Fill.{rowsOf}
 use Rattle.measure.specs.Diameter.{smallest}
 use Rattle.measure.specs.Quantity.{diameter}
-use Rattle.heads.specs.declared.kind.HeadKind.the-variants.{Flat}
-use Rattle.heads.specs.Kind.{kindOf}
 use Rattle.refusal.specs.declared.Verdict.{Verdict}
 use Rattle.refusal.specs.declared.Verdict.the-variants.{Passed, Refused}
 use Rattle.refusal.specs.Test.{verdict}
-use Rattle.tank.specs.declared.tank.Tank.{Tank}
 use Rattle.deadwood.specs.declared.item.Deadwood.{Deadwood}
 use Rattle.deadwood.specs.Item.{mostItems, noItem}
+use Rattle.heads.specs.declared.kind.HeadKind.the-variants.{Flat}
+use Rattle.heads.specs.Kind.{kindOf}
+use Rattle.tank.specs.declared.tank.Tank.{Tank}
+use Rattle.file.specs.declared.format.Format.{Format}
+use Rattle.file.specs.Word.{word}
+use Rattle.file.specs.Layout.{kindAt, dhAt, l1At, l2At, l3At, stepAt}
+use Rattle.file.specs.Format.{today}
+use Rattle.file.specs.Section.{deadwood}
+use Rattle.numbers.specs.Item.{itemsOf}
+use Rattle.dimensions.specs.Dimensions.{d1, d2}
 use Rattle.survey.specs.declared.decode.Decoded.{Decoded}
-use Rattle.survey.specs.declared.format.Format.{Format}
 use Rattle.survey.specs.declared.decode.Survey.{Survey}
-use Rattle.survey.specs.Word.{word}
-use Rattle.survey.specs.Layout.{kindAt, dhAt, l1At, l2At, l3At, stepAt}
-use Rattle.survey.specs.Format.{today}
-use Rattle.survey.specs.Section.{deadwood, recordAt}
-use Rattle.survey.specs.Item.{itemFrom}
-use Rattle.survey.specs.Dimensions.{d1, d2}
 use Rattle.survey.specs.Tests.{fileTests}
 
 -- a tank of these diameters, with the file's other sizes
@@ -38,10 +37,7 @@ tankOf s d1 d2 =
       l3 = word s l3At;
     }
 
--- the deadwood as a list of records, and behind it items that take nothing
-abbrev pub itemsOf : Format → List ℕ → List Deadwood
-itemsOf f s = rowsOf (λ i. itemFrom s (recordAt (deadwood f s) i)) (deadwood f s .count)
-
+-- what stands behind the deadwood: items that take nothing
 abbrev pub noItems : List Deadwood
 noItems = replicate mostItems noItem
 

@@ -3,35 +3,40 @@ use Prim.Native.Nat.{ℕ, _≤_}
 use mathlib.Core.Path.{_≡_, refl}
 use mathlib.Core.Bool.{true}
 use mathlib.Core.List.{List, _++_}
-use native.Mathlib.Omega.{arith}
 use lib.ListN.{length}
 use lib.Seq.{take-at}
 use Rattle.laws.specs.FillLaws.{length-rowsOf}
 use Rattle.laws.specs.BoolLaws.{both-pass}
 use Rattle.measure.specs.Diameter.{smallest, largest}
-use Rattle.schedule.specs.Rows.{smallestStep, largestStep}
 use Rattle.refusal.specs.declared.Verdict.{Verdict}
 use Rattle.refusal.specs.declared.Verdict.the-variants.{Passed, Refused}
 use Rattle.refusal.specs.Test.{verdict, within, near}
 use Rattle.refusal.specs.TestLaws.{refused-not-passed, passed-pick, passed-all, passed-append, within-pass}
+use Rattle.deadwood.specs.Item.{mostItems}
+use Rattle.deadwood.specs.ListLaws.{DeadwoodLimits}
+use Rattle.schedule.specs.Rows.{smallestStep, largestStep}
 use Rattle.heads.specs.Kind.{kindOf}
 use Rattle.heads.specs.LengthLaws.{within-limits}
 use Rattle.tank.specs.TankLaws.{TankLimits}
-use Rattle.deadwood.specs.Item.{mostItems}
-use Rattle.deadwood.specs.ListLaws.{DeadwoodLimits}
+use Rattle.file.specs.declared.format.Format.{Format}
+use Rattle.file.specs.Word.{word}
+use Rattle.file.specs.Layout.{kindAt, dhAt, l3At}
+use Rattle.file.specs.Format.{today}
+use Rattle.file.specs.Limits.{largestFile}
+use Rattle.file.specs.Section.{deadwood}
+use Rattle.file.specs.FormatLaws.{Readable, today-readable}
+use Rattle.file.specs.SectionLaws.{placed-file}
+use Rattle.file.specs.Tests.{layoutTests}
+use Rattle.numbers.specs.Tests.{numberTests}
+use Rattle.numbers.specs.Item.{itemsOf}
+use Rattle.numbers.specs.FitLaws.{NumbersFit, as-they-stand, dh-fits, step-fits, lengths-fit, head-length-fits, items-fit}
+use Rattle.dimensions.specs.Limits.{farthest}
+use Rattle.dimensions.specs.Dimensions.{d1, d2, diameterFits}
+use Rattle.dimensions.specs.Tests.{dimensionTests}
 use Rattle.survey.specs.declared.decode.Decoded.{Decoded}
 use Rattle.survey.specs.declared.decode.Survey.{Survey}
-use Rattle.survey.specs.declared.format.Format.{Format}
-use Rattle.survey.specs.Word.{word}
-use Rattle.survey.specs.Layout.{headerEnd, seamHeaderEnd, kindAt, dhAt, l3At}
-use Rattle.survey.specs.Format.{formatOf, format48, today}
-use Rattle.survey.specs.Limits.{largestFile, farthest}
-use Rattle.survey.specs.Section.{deadwood}
-use Rattle.survey.specs.SectionLaws.{Readable, placed-file}
-use Rattle.survey.specs.Dimensions.{d1, d2, diameterFits}
-use Rattle.survey.specs.Tests.{layoutTests, numberTests, dimensionTests, fileTests}
-use Rattle.survey.specs.Survey.{itemsOf, surveyOf, itemsIn, decodedBy, decodedAs, decoded}
-use Rattle.survey.specs.FitLaws.{NumbersFit, as-they-stand, dh-fits, step-fits, lengths-fit, head-length-fits, items-fit}
+use Rattle.survey.specs.Tests.{fileTests}
+use Rattle.survey.specs.Survey.{surveyOf, itemsIn, decodedBy, decodedAs, decoded}
 
 -- what a survey that is not refused promises to whoever reads it
 pub record SurveyLimits (v : Survey) : Type 0 where
@@ -84,26 +89,6 @@ survey-fits f s readable e =
       few = fit .placed .fewItems;
       items = rw (take-at (itemsOf f s) _ n (length-rowsOf _ n)) (items-fit f s fit);
     }
-
--- the format of document 01 can be read, and today's
-
-readable : (header : ℕ) → headerEnd ≤ header → header ≤ largestFile → Readable (formatOf header)
-readable header long short = record {
-  header = long;
-  header-short = short;
-  course = omega arith;
-  course-short = omega arith;
-  deadwood = omega arith;
-  deadwood-short = omega arith;
-  seam = omega arith;
-  seam-short = omega arith;
-}
-
-pub format48-readable : Readable format48
-format48-readable = readable headerEnd (omega arith) (omega arith)
-
-pub today-readable : Readable today
-today-readable = readable seamHeaderEnd (omega arith) (omega arith)
 
 -- what decoding gives is within its limits, whatever the file
 pub decoded-as-fits : (f : Format) (s : List ℕ) → Readable f → WithinLimits (decodedAs f s)

@@ -1,27 +1,31 @@
 // The survey that a file holds, or the refusal of any other. A file is read here and nowhere else.
 ghost use mathlib.Core.Path.{_≡_};
-ghost use Rattle.refusal.specs.declared.Verdict.{Verdict};
+ghost use Prim.Native.Nat.{_≤_};
+ghost use lib.ListN.{length};
 ghost use Rattle.measure.specs.Quantity.{diameter, diameterUnits};
-ghost use Rattle.survey.specs.Word.{word};
-ghost use Rattle.survey.specs.Layout.{dhAt};
-ghost use Rattle.survey.specs.Format.{format48};
-ghost use Rattle.survey.specs.Section.{deadwood};
-ghost use Rattle.survey.specs.SectionLaws.{Readable, Placed};
-ghost use Rattle.survey.specs.Survey.{filledUp, itemsOf, surveyWith, noSurvey, decodedBy, decodedAs, decoded};
+ghost use Rattle.refusal.specs.declared.Verdict.{Verdict};
+ghost use Rattle.file.specs.Word.{word};
+ghost use Rattle.file.specs.Layout.{headerEnd, dhAt};
+ghost use Rattle.file.specs.Format.{format48};
+ghost use Rattle.file.specs.Section.{deadwood};
+ghost use Rattle.file.specs.FormatLaws.{Readable};
+ghost use Rattle.file.specs.SectionLaws.{Placed};
+ghost use Rattle.numbers.specs.Item.{itemsOf};
+ghost use Rattle.survey.specs.Survey.{tankOf, filledUp, surveyWith, noSurvey, decodedBy, decodedAs, decoded};
 ghost use Rattle.survey.specs.SurveyLaws.{WithinLimits};
-use crate::dimensions::Dimensions;
-use crate::format::Format;
 use crate::judge::judged;
-use crate::layout;
-use crate::limits;
-use crate::numbers::item_from;
-use crate::section::deadwood;
-use crate::section::record_at;
-use crate::word::word;
 use deadwood::item::Deadwood;
 use deadwood::item::MOST_ITEMS;
+use dimensions::dimensions::Dimensions;
+use file::format::Format;
+use file::layout;
+use file::limits;
+use file::section::deadwood;
+use file::section::record_at;
+use file::word::word;
 use heads::kind::HeadKind;
 use measure::diameter::Diameter;
+use numbers::item::item_from;
 use refusal::Refusal;
 use refusal::Verdict;
 use tank::tank::Tank;
@@ -83,13 +87,13 @@ fn items(f: Format, s: &[u8]) -> [Deadwood; MOST_ITEMS]
     list
 }
 
-// A file that is not refused: its survey, with its diameters.
-fn accepted(f: Format, s: &[u8], dh: Diameter, d1: Diameter, d2: Diameter) -> Decoded
-    requires { ⌜ Readable f × Placed f (now s) × (dh ≡ diameter (word (now s) dhAt)) ⌝ }
-    ensures { λ r. ⌜ r ≡ decodedBy Verdict.Passed (surveyWith f (now (s .entry)) (diameterUnits d1) (diameterUnits d2)) ⌝ }
+// The tank of a file, with its diameters.
+fn tank_of(s: &[u8], dh: Diameter, d1: Diameter, d2: Diameter) -> Tank
+    requires { ⌜ (headerEnd ≤ length (now s)) × (dh ≡ diameter (word (now s) dhAt)) ⌝ }
+    ensures { λ r. ⌜ r ≡ tankOf (now (s .entry)) (diameterUnits d1) (diameterUnits d2) ⌝ }
 {
     let kind = HeadKind::of(word(s, layout::KIND));
-    let tank = Tank {
+    Tank {
         kind,
         dh,
         d1,
@@ -97,7 +101,15 @@ fn accepted(f: Format, s: &[u8], dh: Diameter, d1: Diameter, d2: Diameter) -> De
         l1: word(s, layout::L1),
         l2: word(s, layout::L2),
         l3: word(s, layout::L3),
-    };
+    }
+}
+
+// A file that is not refused: its survey.
+fn accepted(f: Format, s: &[u8], dh: Diameter, d1: Diameter, d2: Diameter) -> Decoded
+    requires { ⌜ Readable f × Placed f (now s) × (dh ≡ diameter (word (now s) dhAt)) ⌝ }
+    ensures { λ r. ⌜ r ≡ decodedBy Verdict.Passed (surveyWith f (now (s .entry)) (diameterUnits d1) (diameterUnits d2)) ⌝ }
+{
+    let tank = tank_of(s, dh, d1, d2);
     let x = deadwood(f, s);
     Decoded {
         verdict: Verdict::Passed,

@@ -1,16 +1,4 @@
-// The survey file: its words and sections, the tests that it must pass, the dimensions made of it, the survey that it holds, and what a
-// refusal of it is about. Nobody above sees a byte of it but who writes an old file anew.
+// The whole of a survey file: all its tests in their order, and the survey that it holds. Nobody above sees a byte of it but who writes an old file
+// anew and who says what a refusal is about.
 pub mod decode;
-mod dimensions;
-pub mod fault;
-mod field;
-pub mod format;
 mod judge;
-pub mod layout;
-mod less;
-mod limits;
-mod numbers;
-mod reading;
-pub mod section;
-pub mod sentence;
-mod word;

@@ -5,7 +5,7 @@ use mathlib.Core.List.{List}
 use Rattle.refusal.specs.Test.{verdict}
 use Rattle.refusal.specs.EachLaws.{each-item}
 use Rattle.refusal.specs.NumberLaws.{Numbered, InUse, verdict-in-use, first-in-use}
-use Rattle.survey.specs.declared.format.Format.{Format}
+use Rattle.file.specs.declared.format.Format.{Format}
 use Rattle.survey.specs.declared.decode.Survey.{Survey}
 use Rattle.survey.specs.Survey.{decodedAs}
 use Rattle.survey.specs.NumberedLaws.{file-in-use}

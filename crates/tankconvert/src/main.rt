@@ -3,7 +3,7 @@ use libc::STDERR_FILENO;
 use libc::STDOUT_FILENO;
 use report::ERR_SIZE;
 use report::conversion::conversion_said;
-use rewrite::file::MOST_BYTES;
+use rewrite::rewritten::MOST_BYTES;
 use streams::read_input;
 use streams::read_named;
 use streams::write_output;

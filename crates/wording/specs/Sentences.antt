@@ -3,9 +3,9 @@
 use Prim.Native.Nat.{ℕ}
 use Prim.Native.String.{String}
 use mathlib.Core.List.{List, [], _∷_, _++_}
-use Rattle.survey.specs.declared.fault.Fault.{Fault}
-use Rattle.survey.specs.Fault.{faultWith}
-use Rattle.survey.specs.Sentence.{ofHeight, ofVolume}
+use Rattle.fault.specs.declared.fault.Fault.{Fault}
+use Rattle.fault.specs.Fault.{faultWith}
+use Rattle.fault.specs.Sentence.{ofHeight, ofVolume}
 use Rattle.text.specs.declared.sentence.Blanks.{Blanks}
 use Rattle.text.specs.Ascii.{ascii}
 use Rattle.text.specs.Sentence.{sentence}

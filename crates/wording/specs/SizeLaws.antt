@@ -5,7 +5,7 @@ use mathlib.Core.Path.{refl}
 use native.Mathlib.Omega.{arith}
 use borrow.Author.Tests.{leb-true}
 use lib.ListN.{length, length-append}
-use Rattle.survey.specs.declared.fault.Fault.{Fault}
+use Rattle.fault.specs.declared.fault.Fault.{Fault}
 use Rattle.text.specs.SizeLaws.{weight, weigh, heaviest, BlanksFit, sentence-size}
 use Rattle.wording.specs.Sentences.{sentences, blanksOf, faultWords, faultSize, faultLine}
 

@@ -2,7 +2,7 @@
 use mathlib.Core.Path.{_≡_, sym, _∙_, ap}
 use Rattle.refusal.specs.declared.Verdict.the-variants.{Passed}
 use Rattle.schedule.specs.Rows.{mostRows}
-use Rattle.survey.specs.Format.{format48}
+use Rattle.file.specs.Format.{format48}
 use Rattle.survey.specs.Survey.{decodedAs}
 use Rattle.table.specs.Answer.{verdictOn}
 use Rattle.convert.specs.Converted.{converted}

@@ -4,22 +4,17 @@ use borrow.Author.Needs.{needs}
 use Rattle.survey.proofs.decode.accepted.Statement.{statement}
 use Rattle.survey.proofs.decode.accepted.Tie as tie
 
+tank-of-requires : tie.Need-tank-of-requires
+tank-of-requires c κs = (c .before .pre .1 .courses-inside .header, c .before .pre .2)
+
 returns : tie.Need-returns
 returns c =
     rw (
-      c .before .before .before .before .before .before .before .before .before .pre .2,
-      c .before .before .before .before .before .before .of .ensures,
-      c .before .before .before .before .before .before .before .word .ensures,
-      c .before .before .before .before .before .word2 .ensures,
-      c .before .before .before .before .word3 .ensures,
-      c .before .before .before .word4 .ensures,
-      c .before .word5 .ensures,
-      c .items .ensures,
+      c .before .before .before .tank-of .ensures,
       ap (λ x. x .count) (c .before .before .deadwood .ensures .0),
+      c .before .word .ensures,
+      c .items .ensures,
     )
 
 pub accepted-spec : {M : Type 1} → statement M
-accepted-spec =
-    tie.close
-    (tie.spec (λ c κs. search needs) (λ c κs. search needs) (λ c κs. search needs) (λ c κs. search needs)
-    (λ c κs. search needs) (λ c κs. search needs) (λ c κs. search needs) (λ c κs. search needs) returns)
+accepted-spec = tie.close (tie.spec tank-of-requires (λ c κs. search needs) (λ c κs. search needs) (λ c κs. search needs) returns)

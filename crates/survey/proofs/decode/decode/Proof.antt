@@ -1,7 +1,8 @@
 -- `survey::decode::decode` meets its contract: today's format can be read. Assumes nothing.
 use mathlib.Core.Path.{_∙_, ap}
+use Rattle.file.specs.FormatLaws.{today-readable}
 use Rattle.survey.specs.Survey.{decodedAs, decoded}
-use Rattle.survey.specs.SurveyLaws.{today-readable, decoded-fits}
+use Rattle.survey.specs.SurveyLaws.{decoded-fits}
 use borrow.Author.Needs.{needs}
 use Rattle.survey.proofs.decode.decode.Statement.{statement}
 use Rattle.survey.proofs.decode.decode.Tie as tie

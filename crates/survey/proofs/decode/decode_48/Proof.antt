@@ -1,8 +1,9 @@
 -- `survey::decode::decode_48` meets its contract: the format can be read. Assumes nothing.
 use mathlib.Core.Path.{_∙_, ap}
-use Rattle.survey.specs.Format.{format48}
+use Rattle.file.specs.Format.{format48}
+use Rattle.file.specs.FormatLaws.{format48-readable}
 use Rattle.survey.specs.Survey.{decodedAs}
-use Rattle.survey.specs.SurveyLaws.{format48-readable, decoded-as-fits}
+use Rattle.survey.specs.SurveyLaws.{decoded-as-fits}
 use borrow.Author.Needs.{needs}
 use Rattle.survey.proofs.decode.decode_48.Statement.{statement}
 use Rattle.survey.proofs.decode.decode_48.Tie as tie

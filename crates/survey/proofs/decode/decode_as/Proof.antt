@@ -3,8 +3,8 @@ use mathlib.Core.Path.{sym, _∙_, ap₂}
 use Rattle.measure.specs.Quantity.{diameterUnits}
 use Rattle.refusal.specs.declared.Verdict.the-variants.{Passed}
 use Rattle.refusal.specs.Test.{verdict}
+use Rattle.dimensions.specs.JudgedLaws.{told-refused, told-found}
 use Rattle.survey.specs.Tests.{fileTests}
-use Rattle.survey.specs.JudgedLaws.{told-refused, told-found}
 use Rattle.survey.specs.SurveyLaws.{passed-file}
 use Rattle.survey.specs.Survey.{surveyWith, decodedBy}
 use borrow.Author.Needs.{needs}

@@ -8,9 +8,9 @@ use native.Mathlib.Omega.{arith}
 use Rattle.laws.specs.Fill.{rowsOf}
 use Rattle.laws.specs.FillLaws.{Filled, filled-none, filled-more, filled-all}
 use Rattle.deadwood.specs.Item.{mostItems}
-use Rattle.survey.specs.declared.section.Section.{Section}
-use Rattle.survey.specs.Section.{recordAt}
-use Rattle.survey.specs.Item.{itemFrom}
+use Rattle.file.specs.declared.section.Section.{Section}
+use Rattle.file.specs.Section.{recordAt}
+use Rattle.numbers.specs.Item.{itemFrom}
 use Rattle.survey.specs.Survey.{noItems, filledUp}
 use Rattle.survey.proofs.decode.items.Statement.{statement}
 use Rattle.survey.proofs.decode.items.Tie as tie

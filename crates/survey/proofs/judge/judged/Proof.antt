@@ -8,9 +8,12 @@ use lib.ListN.{length}
 use Rattle.refusal.specs.declared.Verdict.the-variants.{Passed}
 use Rattle.refusal.specs.Test.{verdict, within, firstRefusal}
 use Rattle.refusal.specs.TestLaws.{verdict-append, within-pass}
-use Rattle.survey.specs.Limits.{largestFile}
-use Rattle.survey.specs.SectionLaws.{Placed, placed-file}
-use Rattle.survey.specs.Tests.{layoutTests, numberTests, dimensionTests, fileTests}
+use Rattle.file.specs.Limits.{largestFile}
+use Rattle.file.specs.SectionLaws.{Placed, placed-file}
+use Rattle.file.specs.Tests.{layoutTests}
+use Rattle.numbers.specs.Tests.{numberTests}
+use Rattle.dimensions.specs.Tests.{dimensionTests}
+use Rattle.survey.specs.Tests.{fileTests}
 use borrow.Author.Needs.{needs}
 use Rattle.survey.proofs.judge.judged.Statement.{statement}
 use Rattle.survey.proofs.judge.judged.Tie as tie
@@ -18,7 +21,7 @@ use Rattle.survey.proofs.judge.judged.Tie as tie
 -- the tests that passed, place by place
 
 size : (c : tie.Else1) → within (c .before .before .before .args .f .header) (length (c .before .before .before .args .s .now)) largestFile ≡ true
-size c = sym (c .before .is-within .ensures) ∙ not-false _ (c .if1 .left)
+size c = sym (c .before .size-fits .ensures) ∙ not-false _ (c .if1 .left)
 
 layout : (c : tie.After-enum-told) → verdict (layoutTests (c .before .before .before .before .before .before .args .f) (c .before .before .before .before .before .before .args .s .now)) ≡ Passed
 layout c = sym (c .before .before .layout-tested .ensures) ∙ c .enum-told .given .1
@@ -43,7 +46,7 @@ behind c =
 
 returns : tie.Need-returns
 unfolding fileTests
-returns c = rw (sym (c .before .is-within .ensures) ∙ not-true _ (c .if1 .taken))
+returns c = rw (sym (c .before .size-fits .ensures) ∙ not-true _ (c .if1 .taken))
 
 layout-tested-requires : tie.Need-layout-tested-requires
 layout-tested-requires c κs = (c .before .before .before .pre, within-pass (c .before .before .before .args .f .header) (length (c .before .before .before .args .s .now)) largestFile (size c) .0)

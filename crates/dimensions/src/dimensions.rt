@@ -1,0 +1,196 @@
+// The sums over the courses, and D1 and D2 made of them.
+ghost use mathlib.Core.Path.{_≡_};
+ghost use Prim.Native.Nat.{_+_, _*_, _^_, _≤_, _<_};
+ghost use lib.ListN.{length};
+ghost use Rattle.laws.specs.Order.{pick};
+ghost use Rattle.measure.specs.Diameter.{smallest, largest};
+ghost use Rattle.measure.specs.Pi.{piUnder};
+ghost use Rattle.measure.specs.Quantity.{diameter};
+ghost use Rattle.tank.specs.Limits.{longestShell};
+ghost use Rattle.file.specs.Limits.{mostCourses};
+ghost use Rattle.file.specs.Layout.{courseEnd};
+ghost use Rattle.file.specs.FormatLaws.{Readable};
+ghost use Rattle.numbers.specs.CourseLaws.{CourseFits};
+ghost use Rattle.numbers.specs.FitLaws.{NumbersFit};
+ghost use Rattle.dimensions.specs.Dimensions.{sumOf, added, sumsOf, allowance, lengthsFit, outerDiameter, wall, shellDiameter, headDiameter, diameterFits, dimensions, headsTested};
+ghost use Rattle.dimensions.specs.SumLaws.{SumsSmall};
+use crate::limits::COURSE_ALLOWANCE;
+use crate::limits::FARTHEST;
+use arith::less::less;
+use arith::nearest::nearest_quotient;
+use file::format::Format;
+use file::layout;
+use file::section::courses;
+use file::section::record_at;
+use file::word::word;
+use heads::kind::HeadKind;
+use heads::length::fits_diameter;
+use measure::diameter::Diameter;
+use measure::diameter::Measured;
+use measure::pi::PI_OVER;
+use measure::pi::PI_UNDER;
+use numbers::reading::corrected_at;
+use numbers::reading::rise_of;
+use refusal::Refusal;
+use refusal::limits::is_near;
+
+// What the dimensions are made of, summed over courses.
+pub struct Sums {
+    // (first + second circumference) · length
+    pub readings: u64,
+    pub lengths: u64,
+    pub thicknesses: u64,
+    pub count: u64,
+}
+
+// DH, D1 and D2 of a file; or its refusal.
+pub enum Dimensions {
+    Found(Diameter, Diameter, Diameter),
+    Refused(Refusal),
+}
+
+// What the course at a byte adds, its circumferences having lost the tape rise.
+fn sum_of(s: &[u8], at: usize, rise: u64) -> Sums
+    requires { ⌜ (at + courseEnd ≤ length (now s)) × CourseFits (now s) at rise ⌝ }
+    ensures { λ r. ⌜ r ≡ sumOf (now (s .entry)) at rise ⌝ }
+{
+    let first = corrected_at(s, at + layout::FIRST_CIRCUMFERENCE, rise);
+    let second = corrected_at(s, at + layout::SECOND_CIRCUMFERENCE, rise);
+    let length = word(s, at + layout::COURSE_LENGTH) as u64;
+    let thickness = word(s, at + layout::THICKNESS) as u64;
+    Sums {
+        readings: (first + second) * length,
+        lengths: length,
+        thicknesses: thickness,
+        count: 1,
+    }
+}
+
+fn add(t: Sums, u: Sums) -> Sums
+    requires { ⌜ SumsSmall t × SumsSmall u ⌝ }
+    ensures { λ r. ⌜ r ≡ added t u ⌝ }
+{
+    Sums {
+        readings: t.readings + u.readings,
+        lengths: t.lengths + u.lengths,
+        thicknesses: t.thicknesses + u.thicknesses,
+        count: t.count + u.count,
+    }
+}
+
+// Over all courses of a file that passes refusals 1 to 5.
+pub fn file_sums(f: Format, s: &[u8]) -> Sums
+    requires { ⌜ Readable f × NumbersFit f (now s) ⌝ }
+    ensures { λ r. ⌜ r ≡ sumsOf f (now (s .entry)) ⌝ }
+    ensures { λ r. ⌜ SumsSmall r × (1 ≤ r .lengths) × (1 ≤ r .count) ⌝ }
+{
+    let x = courses(f, s);
+    let count = x.count;
+    let mut t = Sums {
+        readings: 0,
+        lengths: 0,
+        thicknesses: 0,
+        count: 0,
+    };
+    let mut i: usize = 0;
+    while i < count {
+        t = add(t, sum_of(s, record_at(x, i), rise_of(f, s, i)));
+        i += 1;
+    }
+    t
+}
+
+// How far the lengths may lie from L1.
+pub fn allowance(t: Sums) -> u64
+    requires { ⌜ SumsSmall t ⌝ }
+    ensures { λ r. ⌜ r ≡ allowance t ⌝ }
+{
+    COURSE_ALLOWANCE * t.count
+}
+
+// Whether the lengths are as near to L1 as that.
+pub fn lengths_fit(t: Sums, l1: u32) -> bool
+    requires { ⌜ SumsSmall t ⌝ }
+    ensures { λ r. ⌜ r ≡ lengthsFit t l1 ⌝ }
+{
+    is_near(t.lengths, l1 as u64, allowance(t))
+}
+
+// Of circumferences, in pairs, weighted by lengths.
+fn outer_diameter(readings: u64, lengths: u64) -> u64
+    requires { ⌜ (piUnder * readings < 2 ^ 63) × (1 ≤ lengths) × (lengths ≤ mostCourses * longestShell) ⌝ }
+    ensures { λ r. ⌜ r ≡ outerDiameter readings lengths ⌝ }
+{
+    nearest_quotient(PI_UNDER * readings, 2 * PI_OVER * lengths)
+}
+
+// Twice the mean thickness.
+fn wall(t: Sums) -> u64
+    requires { ⌜ SumsSmall t × (1 ≤ t .count) ⌝ }
+    ensures { λ r. ⌜ r ≡ wall (t .thicknesses) (t .count) ⌝ }
+{
+    nearest_quotient(2 * t.thicknesses, t.count)
+}
+
+// D1, from the courses.
+pub fn shell_diameter(t: Sums) -> u64
+    requires { ⌜ SumsSmall t × (1 ≤ t .lengths) × (1 ≤ t .count) ⌝ }
+    ensures { λ r. ⌜ r ≡ shellDiameter t ⌝ }
+{
+    less(outer_diameter(t.readings, t.lengths), wall(t))
+}
+
+// D2, of flange and head, from the circumferences at the shell's ends.
+pub fn head_diameter(t: Sums, left: u32, right: u32) -> u64
+    requires { ⌜ SumsSmall t × (1 ≤ t .count) ⌝ }
+    ensures { λ r. ⌜ r ≡ headDiameter t left right ⌝ }
+{
+    less(outer_diameter(left as u64 + right as u64, 1), wall(t))
+}
+
+// The diameter of so many u, where it is within its limits and not far from DH.
+pub fn fitting(d: u64, dh: u32) -> Measured
+    ensures { λ r. ⌜ r ≡ pick (diameterFits d dh) (Measured.Within (diameter d)) Measured.Outside ⌝ }
+{
+    if !is_near(d, dh as u64, FARTHEST) {
+        return Measured::Outside;
+    }
+    Diameter::of(d)
+}
+
+// DH, D1 and D2; DH is within its limits.
+pub fn diameters(t: Sums, left: u32, right: u32, dh: u32) -> Dimensions
+    requires { ⌜ SumsSmall t × (1 ≤ t .lengths) × (1 ≤ t .count) × (smallest ≤ dh) × (dh ≤ largest) ⌝ }
+    ensures { λ r. ⌜ r ≡ dimensions dh (shellDiameter t) (headDiameter t left right) ⌝ }
+{
+    let unfit = Dimensions::Refused(Refusal {
+        number: 7,
+        place: 0,
+    });
+    let Measured::Within(d1) = fitting(shell_diameter(t), dh) else {
+        return unfit;
+    };
+    let Measured::Within(d2) = fitting(head_diameter(t, left, right), dh) else {
+        return unfit;
+    };
+    let Measured::Within(dip_point) = Diameter::of(dh as u64) else {
+        return unfit;
+    };
+    Dimensions::Found(dip_point, d1, d2)
+}
+
+// What was found, and then refusal 14, where D2 does not allow the length of one head.
+pub fn heads_tested(found: Dimensions, kind: HeadKind, l3: u32) -> Dimensions
+    ensures { λ r. ⌜ r ≡ headsTested kind l3 «found» ⌝ }
+{
+    let Dimensions::Found(_, _, d2) = found else {
+        return found;
+    };
+    if fits_diameter(kind, d2, l3) {
+        return found;
+    }
+    Dimensions::Refused(Refusal {
+        number: 14,
+        place: 0,
+    })
+}

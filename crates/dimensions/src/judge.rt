@@ -1,0 +1,64 @@
+// Refusals 6, 7 and 14, and the diameters of a file that none of them is given to.
+ghost use mathlib.Core.Path.{_≡_};
+ghost use Prim.Native.Nat.{_≤_};
+ghost use lib.ListN.{length};
+ghost use Rattle.measure.specs.Diameter.{smallest, largest};
+ghost use Rattle.refusal.specs.Test.{verdict};
+ghost use Rattle.heads.specs.Kind.{kindOf};
+ghost use Rattle.file.specs.Word.{word};
+ghost use Rattle.file.specs.Layout.{headerEnd, kindAt, dhAt, leftAt, rightAt, l3At};
+ghost use Rattle.file.specs.FormatLaws.{Readable};
+ghost use Rattle.numbers.specs.FitLaws.{NumbersFit};
+ghost use Rattle.dimensions.specs.Dimensions.{shellDiameter, headDiameter, dimensions, headsTested};
+ghost use Rattle.dimensions.specs.SumLaws.{SumsSmall};
+ghost use Rattle.dimensions.specs.Tests.{dimensionTests};
+ghost use Rattle.dimensions.specs.Judged.{judgedBy};
+use crate::dimensions::Dimensions;
+use crate::dimensions::Sums;
+use crate::dimensions::diameters;
+use crate::dimensions::file_sums;
+use crate::dimensions::heads_tested;
+use crate::dimensions::lengths_fit;
+use file::format::Format;
+use file::layout;
+use file::word::word;
+use heads::kind::HeadKind;
+use refusal::Refusal;
+
+// The diameters of a file with these sums.
+fn diameters_in(s: &[u8], t: Sums) -> Dimensions
+    requires { ⌜ (headerEnd ≤ length (now s)) × SumsSmall t × (1 ≤ t .lengths) × (1 ≤ t .count) ⌝ }
+    requires { ⌜ (smallest ≤ word (now s) dhAt) × (word (now s) dhAt ≤ largest) ⌝ }
+    ensures { λ r. ⌜ r ≡ dimensions (word (now (s .entry)) dhAt) (shellDiameter t) (headDiameter t (word (now (s .entry)) leftAt) (word (now (s .entry)) rightAt)) ⌝ }
+{
+    diameters(
+        t,
+        word(s, layout::LEFT),
+        word(s, layout::RIGHT),
+        word(s, layout::DH),
+    )
+}
+
+// What was found, and then refusal 14 of the file's heads.
+fn heads_in(s: &[u8], found: Dimensions) -> Dimensions
+    requires { ⌜ headerEnd ≤ length (now s) ⌝ }
+    ensures { λ r. ⌜ r ≡ headsTested (kindOf (word (now (s .entry)) kindAt)) (word (now (s .entry)) l3At) «found» ⌝ }
+{
+    let kind = HeadKind::of(word(s, layout::KIND));
+    heads_tested(found, kind, word(s, layout::L3))
+}
+
+// A file that passes refusals 1 to 5: refusals 6, 7 and 14.
+pub fn measured(f: Format, s: &[u8]) -> Dimensions
+    requires { ⌜ Readable f × NumbersFit f (now s) ⌝ }
+    ensures { λ r. ⌜ r ≡ judgedBy f (now (s .entry)) (verdict (dimensionTests f (now (s .entry)))) ⌝ }
+{
+    let t = file_sums(f, s);
+    if !lengths_fit(t, word(s, layout::L1)) {
+        return Dimensions::Refused(Refusal {
+            number: 6,
+            place: 0,
+        });
+    }
+    heads_in(s, diameters_in(s, t))
+}

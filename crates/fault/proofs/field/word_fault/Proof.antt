@@ -1,0 +1,10 @@
+-- `fault::field::word_fault` meets its contract: what its callees ensure, put together. Assumes nothing.
+use borrow.Author.Needs.{needs}
+use Rattle.fault.proofs.field.word_fault.Statement.{statement}
+use Rattle.fault.proofs.field.word_fault.Tie as tie
+
+returns : tie.Need-returns
+returns c = rw (c .fault-with .ensures, c .before .word .ensures)
+
+pub word-fault-spec : {M : Type 1} → statement M
+word-fault-spec = tie.close (tie.spec (λ c κs. search needs) (λ c. search needs) (λ c κs. search needs) returns)

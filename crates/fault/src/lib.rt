@@ -1,0 +1,4 @@
+// What a refusal of a survey file is about.
+pub mod fault;
+mod field;
+pub mod sentence;

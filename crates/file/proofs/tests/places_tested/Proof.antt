@@ -1,0 +1,27 @@
+-- `file::tests::places_tested` meets its contract: its tests in turn are the tests of the list. Assumes nothing.
+use mathlib.Core.List.{[], _∷_}
+use mathlib.Core.Path.{sym, _∙_}
+use Rattle.refusal.specs.declared.Verdict.the-variants.{Passed}
+use Rattle.refusal.specs.Test.{test}
+use Rattle.refusal.specs.TestLaws.{verdict-in-turn}
+use Rattle.file.specs.Section.{placed, apart}
+use Rattle.file.specs.Tests.{placeTests}
+use borrow.Author.Needs.{needs}
+use Rattle.file.proofs.tests.places_tested.Statement.{statement}
+use Rattle.file.proofs.tests.places_tested.Tie as tie
+
+returns : tie.Need-returns
+returns c =
+    let a = c .before .before .before .before .args in
+    let first = test 3 0 (placed (a .header) (a .file-size) (a .x)) ∷ test 3 0 (apart (a .x) (a .y)) ∷ [] in
+    let second = test 3 0 (placed (a .header) (a .file-size) (a .y)) ∷ test 3 0 (apart (a .y) (a .z)) ∷ [] in
+    rw (
+      ← verdict-in-turn Passed (placeTests (a .header) (a .file-size) (a .x ∷ a .y ∷ a .z ∷ [])),
+      c .place-tested .ensures,
+      c .before .placed-before2 .ensures ∙ sym (verdict-in-turn (c .before .before .apart-tested .result) second),
+      c .before .before .apart-tested .ensures,
+      c .before .before .before .placed-before .ensures ∙ sym (verdict-in-turn Passed first),
+    )
+
+pub places-tested-spec : {M : Type 1} → statement M
+places-tested-spec = tie.close (tie.spec (λ c κs. search needs) (λ c κs. search needs) (λ c κs. search needs) (λ c κs. search needs) returns)

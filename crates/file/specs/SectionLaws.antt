@@ -1,0 +1,93 @@
+-- What a file that passes refusals 1 to 3 promises, as plain facts: its size, its counts, and that
+-- every record of a section lies inside it. Assumes nothing.
+use Prim.Native.Nat.{ℕ, _+_, _^_, _≤_, _<_}
+use mathlib.Core.Path.{_≡_}
+use mathlib.Core.Bool.{true}
+use mathlib.Core.List.{List}
+use native.Mathlib.Nat.{mul-le-mul, mul-le-mul-left, le-of-lt}
+use native.Mathlib.Omega.{arith}
+use lib.Dec.{leb}
+use lib.ListN.{length}
+use borrow.Author.Tests.{leb-true, ne-eqb}
+use Rattle.laws.specs.BoolLaws.{both-pass}
+use Rattle.refusal.specs.declared.Verdict.the-variants.{Passed}
+use Rattle.refusal.specs.Test.{verdict, within}
+use Rattle.refusal.specs.TestLaws.{passed-all, within-pass}
+use Rattle.deadwood.specs.Item.{mostItems}
+use Rattle.file.specs.declared.format.Format.{Format}
+use Rattle.file.specs.declared.section.Section.{Section}
+use Rattle.file.specs.declared.section.Records.{Records}
+use Rattle.file.specs.declared.section.Records.the-variants.{Courses, Deadwood, Seams}
+use Rattle.file.specs.Layout.{headerEnd, itemEnd}
+use Rattle.file.specs.Limits.{largestFile, mostCourses}
+use Rattle.file.specs.Section.{courses, deadwood, seams, seamItems, recordAt, endOf, placed, recordLong}
+use Rattle.file.specs.Tests.{layoutTests}
+use Rattle.file.specs.FormatLaws.{longestRecord, Readable}
+
+-- a section of words and a short record: no sum over it wraps
+pub record Small (x : Section) : Type 0 where
+  pub count : x .count < 2 ^ 32
+  pub offset : x .offset < 2 ^ 32
+  pub size : x .size ≤ longestRecord
+
+pub small-end : (x : Section) → Small x → endOf x < 2 ^ 63
+small-end x small = omega (arith, mul-le-mul (small .size) (le-of-lt (small .count)))
+
+-- a record has words
+pub record-some : (records : Records) → itemEnd ≤ recordLong records
+record-some Courses = omega arith
+record-some Deadwood = omega arith
+record-some Seams = omega arith
+
+-- a section whose records lie inside a file that has its header
+pub record Inside (s : List ℕ) (x : Section) : Type 0 where
+  pub header : headerEnd ≤ length s
+  pub file : length s ≤ largestFile
+  pub long : recordLong (x .records) ≤ x .size
+  pub inside : (i : ℕ) → i < x .count → recordAt x i + x .size ≤ length s
+
+-- a section that is well placed starts behind the header and has each of its records inside the file
+pub placed-inside : (header fileSize : ℕ) (x : Section) → placed header fileSize x ≡ true → (i : ℕ) → i < x .count
+    → (header ≤ x .offset) × (recordAt x i + x .size ≤ fileSize)
+unfolding placed
+placed-inside header fileSize x h i l =
+    let one-more : i + 1 ≤ x .count = omega arith in
+    let some = ne-eqb (x .count) 0 (λ e. omega arith) in
+    let halves = both-pass (leb header (x .offset)) (leb (endOf x) fileSize) (rw some at h) in
+    (leb-true header (x .offset) (halves .0), omega (arith, mul-le-mul-left (x .size) one-more, leb-true (endOf x) fileSize (halves .1)))
+
+pub record Placed (f : Format) (s : List ℕ) : Type 0 where
+  pub header : f .header ≤ length s
+  pub courses-inside : Inside s (courses f s)
+  pub deadwood-inside : Inside s (deadwood f s)
+  pub seams-inside : Inside s (seams f s)
+  pub someCourse : 1 ≤ courses f s .count
+  pub fewCourses : courses f s .count ≤ mostCourses
+  pub fewItems : deadwood f s .count ≤ mostItems
+  pub eachSeamed : seams f s .count ≡ seamItems f s
+
+pub placed-file : (f : Format) (s : List ℕ) → Readable f → within (f .header) (length s) largestFile ≡ true → verdict (layoutTests f s) ≡ Passed → Placed f s
+unfolding layoutTests
+placed-file f s readable size passed =
+    let file = within-pass (f .header) (length s) largestFile size in
+    let pass = passed-all (layoutTests f s) passed in
+    let courses-count = within-pass 1 (courses f s .count) mostCourses (pass .0) in
+    let seams-count = within-pass (seamItems f s) (seams f s .count) (seamItems f s) (pass .1 .1 .0) in
+    let inside : (x : Section) → recordLong (x .records) ≤ x .size → placed (f .header) (length s) x ≡ true → Inside s x =
+    λ x long there. record {
+      header = omega (arith, readable .header, file .0);
+      file = file .1;
+      long = long;
+      inside = λ i l. placed-inside (f .header) (length s) x there i l .1;
+    } in
+    let places = pass .1 .1 .1 in
+    record {
+      header = file .0;
+      courses-inside = inside (courses f s) (readable .course) (places .0);
+      deadwood-inside = inside (deadwood f s) (readable .deadwood) (places .1 .1 .1 .0);
+      seams-inside = inside (seams f s) (readable .seam) (places .1 .1 .1 .1 .1 .0);
+      someCourse = courses-count .0;
+      fewCourses = courses-count .1;
+      fewItems = within-pass 0 (deadwood f s .count) mostItems (pass .1 .0) .1;
+      eachSeamed = omega (arith, seams-count);
+    }

@@ -1,0 +1,23 @@
+// Deadwood items as a file holds them.
+ghost use mathlib.Core.Path.{_≡_};
+ghost use Prim.Native.Nat.{_+_, _≤_};
+ghost use lib.ListN.{length};
+ghost use Rattle.file.specs.Layout.{itemEnd};
+ghost use Rattle.numbers.specs.Item.{itemFrom};
+use deadwood::item::Deadwood;
+use file::layout;
+use file::word::signed_word;
+use file::word::word;
+use measure::dip_height::DipHeight;
+
+// The deadwood item whose record starts at a byte.
+pub fn item_from(s: &[u8], at: usize) -> Deadwood
+    requires { ⌜ at + itemEnd ≤ length (now s) ⌝ }
+    ensures { λ r. ⌜ r ≡ itemFrom (now (s .entry)) at ⌝ }
+{
+    Deadwood {
+        low: DipHeight::of(word(s, at + layout::LOW_HEIGHT)),
+        high: DipHeight::of(word(s, at + layout::HIGH_HEIGHT)),
+        volume: signed_word(s, at + layout::ITEM_VOLUME),
+    }
+}

@@ -1,0 +1,62 @@
+// Refusal 5: every number of the file within its limits as it stands, in the header, then in the sections' records; and then the readings
+// that have lost the tape rise.
+ghost use mathlib.Core.Path.{_≡_};
+ghost use Rattle.refusal.specs.Test.{verdict};
+ghost use Rattle.file.specs.FormatLaws.{Readable};
+ghost use Rattle.file.specs.SectionLaws.{Inside, Placed};
+ghost use Rattle.numbers.specs.Tests.{sectionTests, limitTests, numberTests};
+use crate::header::header_tested;
+use crate::reading::readings_tested;
+use crate::record::record_tested;
+use file::format::Format;
+use file::section::Section;
+use file::section::courses;
+use file::section::deadwood;
+use file::section::record_at;
+use file::section::seams;
+use refusal::Verdict;
+use refusal::first_refusal;
+
+// The numbers of a section, record by record.
+fn section_tested(section: Section, s: &[u8]) -> Verdict
+    requires { ⌜ Inside (now s) section ⌝ }
+    ensures { λ r. ⌜ r ≡ verdict (sectionTests (now (s .entry)) section) ⌝ }
+{
+    let x = section;
+    let records = x.records;
+    let count = x.count;
+    let mut v = Verdict::Passed;
+    let mut i: usize = 0;
+    while i < count {
+        v = record_tested(records, v, s, record_at(x, i));
+        i += 1;
+    }
+    v
+}
+
+// All numbers, as they stand, of a file whose sections are well placed.
+pub fn limits_tested(f: Format, s: &[u8]) -> Verdict
+    requires { ⌜ Readable f × Placed f (now s) ⌝ }
+    ensures { λ r. ⌜ r ≡ verdict (limitTests f (now (s .entry))) ⌝ }
+{
+    let header = header_tested(s);
+    let of_courses = section_tested(courses(f, s), s);
+    let of_deadwood = section_tested(deadwood(f, s), s);
+    let of_seams = section_tested(seams(f, s), s);
+    first_refusal(
+        header,
+        first_refusal(of_courses, first_refusal(of_deadwood, of_seams)),
+    )
+}
+
+// .. and the corrected readings, of a file whose numbers are within their limits.
+pub fn numbers_tested(f: Format, s: &[u8]) -> Verdict
+    requires { ⌜ Readable f × Placed f (now s) ⌝ }
+    ensures { λ r. ⌜ r ≡ verdict (numberTests f (now (s .entry))) ⌝ }
+{
+    let v = limits_tested(f, s);
+    match v {
+        Verdict::Refused(r) => Verdict::Refused(r),
+        Verdict::Passed => readings_tested(f, s),
+    }
+}
