@@ -13,7 +13,7 @@ use Rattle.laws.specs.Signed.{sumℤ}
 use Rattle.laws.specs.Sum.{sum}
 use Rattle.measure.specs.Quantity.{diameter}
 use Rattle.circle.specs.Circle.{chord, chordSquare, doubledArea}
-use Rattle.circle.specs.Correction.{correctedHeight}
+use Rattle.correction.specs.Correction.{correctedHeight}
 use Rattle.slabs.specs.Fraction.{_⊕_, _≃_}
 use Rattle.slabs.specs.Slab.{containsMiddle}
 use Rattle.domes.specs.Width.{discSquare, widthOver, fittingWidth, coveringWidth}

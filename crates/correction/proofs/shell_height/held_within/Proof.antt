@@ -1,4 +1,4 @@
--- `circle::shell_height::held_within` meets its contract: by the sign of x, which the first test tells. Assumes nothing.
+-- `correction::shell_height::held_within` meets its contract: by the sign of x, which the first test tells. Assumes nothing.
 use mathlib.Core.Path.{_≡_, sym, _∙_, ap}
 use mathlib.Core.Bool.{false}
 use Prim.Native.Nat.{ℕ, min}
@@ -12,9 +12,9 @@ use mir.Syntax.{w64}
 use mir.Val.{Fits, SFits}
 use mir.ValLaws.{toZ-ofZ}
 use Rattle.laws.specs.SignedLaws.{negative, natural}
-use Rattle.circle.specs.Correction.{heldWithin}
-use Rattle.circle.proofs.shell_height.held_within.Statement.{statement}
-use Rattle.circle.proofs.shell_height.held_within.Tie as tie
+use Rattle.correction.specs.Correction.{heldWithin}
+use Rattle.correction.proofs.shell_height.held_within.Statement.{statement}
+use Rattle.correction.proofs.shell_height.held_within.Tie as tie
 
 -- what is known of x past the first test
 fits : (x : ℤ) → SFits w64 x → ltZ x (pos 0) ≡ false → T (nonNeg x) × Fits w64 (natAbs x)

@@ -1,10 +1,10 @@
--- `circle::shell_height::ShellHeight::corrected` meets its contract: the numbers that its quantities hold go through
+-- `correction::shell_height::ShellHeight::corrected` meets its contract: the numbers that its quantities hold go through
 -- `corrected_units`. Assumes nothing.
 use mathlib.Core.Path.{ap}
 use borrow.Author.Needs.{needs}
-use Rattle.circle.specs.ShellHeight.{shellHeight}
-use Rattle.circle.proofs.shell_height.ShellHeight.corrected.Statement.{statement}
-use Rattle.circle.proofs.shell_height.ShellHeight.corrected.Tie as tie
+use Rattle.correction.specs.ShellHeight.{shellHeight}
+use Rattle.correction.proofs.shell_height.ShellHeight.corrected.Statement.{statement}
+use Rattle.correction.proofs.shell_height.ShellHeight.corrected.Tie as tie
 
 returns : tie.Need-returns
 returns c =

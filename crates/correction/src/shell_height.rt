@@ -3,8 +3,8 @@
 ghost use mathlib.Core.Path.{_≡_};
 ghost use Rattle.laws.specs.Half.{floorHalf, halfDifference};
 ghost use Rattle.measure.specs.Quantity.{dipUnits, diameterUnits};
-ghost use Rattle.circle.specs.ShellHeight.{shellHeight, shellUnits};
-ghost use Rattle.circle.specs.Correction.{heldWithin, correctedHeight};
+ghost use Rattle.correction.specs.ShellHeight.{shellHeight, shellUnits};
+ghost use Rattle.correction.specs.Correction.{heldWithin, correctedHeight};
 use measure::diameter::Diameter;
 use measure::dip_height::DipHeight;
 

@@ -6,7 +6,7 @@ use native.Mathlib.Omega.{arith}
 use lib.IntN.{pos, _+ℤ_}
 use Rattle.laws.specs.OrderLaws.{by-order}
 use Rattle.laws.specs.HalfLaws.{half-up, half-down, difference-up, difference-down}
-use Rattle.circle.specs.Correction.{heldWithin, correctedHeight}
+use Rattle.correction.specs.Correction.{heldWithin, correctedHeight}
 
 -- where D is DH + t
 pub corrected-up : (d dh h t : ℕ) → dh + t ≡ d → correctedHeight d dh h ≡ min (h + t / 2) d

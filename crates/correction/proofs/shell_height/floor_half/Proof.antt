@@ -1,12 +1,12 @@
--- `circle::shell_height::floor_half` meets its contract: a shift that copies the sign bit rounds down. Assumes nothing.
+-- `correction::shell_height::floor_half` meets its contract: a shift that copies the sign bit rounds down. Assumes nothing.
 use mathlib.Core.Path.{_≡_, refl, _∙_}
 use lib.IntN.{ℤ, pos, negsuc}
 use lib.Signed.{shrZ, mag-shr}
 use mir.Syntax.{w64}
 use mir.ValLaws.{toZ-ofZ, sfits-le}
 use Rattle.laws.specs.Half.{floorHalf}
-use Rattle.circle.proofs.shell_height.floor_half.Statement.{statement}
-use Rattle.circle.proofs.shell_height.floor_half.Tie as tie
+use Rattle.correction.proofs.shell_height.floor_half.Statement.{statement}
+use Rattle.correction.proofs.shell_height.floor_half.Tie as tie
 
 shifted : (x : ℤ) → shrZ x 2 ≡ floorHalf x
 shifted (pos n) = refl

@@ -1,4 +1,4 @@
--- `circle::shell_height::corrected_units` meets its contract: a 32-bit height and a half difference add up within 64 bits.
+-- `correction::shell_height::corrected_units` meets its contract: a 32-bit height and a half difference add up within 64 bits.
 -- Assumes nothing.
 use mathlib.Core.Path.{_≡_, _∙_, ap}
 use Prim.Native.Nat.{ℕ, _^_, _<_}
@@ -10,9 +10,9 @@ use mir.Val.{SFits, toZ, ofZ}
 use mir.ValLaws.{toZ-pos, toZ-ofZ}
 use Rattle.laws.specs.Half.{halfDifference}
 use Rattle.laws.specs.SignedLaws.{difference-size, half-size, sum-size}
-use Rattle.circle.specs.Correction.{heldWithin, correctedHeight}
-use Rattle.circle.proofs.shell_height.corrected_units.Statement.{statement}
-use Rattle.circle.proofs.shell_height.corrected_units.Tie as tie
+use Rattle.correction.specs.Correction.{heldWithin, correctedHeight}
+use Rattle.correction.proofs.shell_height.corrected_units.Statement.{statement}
+use Rattle.correction.proofs.shell_height.corrected_units.Tie as tie
 
 module _ (d dh h : ℕ) (fits-d : d < 2 ^ 32) (fits-dh : dh < 2 ^ 32) (fits-h : h < 2 ^ 32) where
   raised-fits : SFits w64 (pos h +ℤ halfDifference d dh)

@@ -1,4 +1,4 @@
--- `circle::shell_height::half_difference` meets its contract: the difference of two 32-bit numbers fits 64 bits with its sign.
+-- `correction::shell_height::half_difference` meets its contract: the difference of two 32-bit numbers fits 64 bits with its sign.
 -- Assumes nothing.
 use mathlib.Core.Path.{_≡_, _∙_, ap}
 use Prim.Native.Nat.{ℕ, _^_, _<_}
@@ -10,8 +10,8 @@ use mir.Val.{SFits, toZ, ofZ}
 use mir.ValLaws.{toZ-pos, toZ-ofZ}
 use Rattle.laws.specs.Half.{floorHalf}
 use Rattle.laws.specs.SignedLaws.{minus, difference-size}
-use Rattle.circle.proofs.shell_height.half_difference.Statement.{statement}
-use Rattle.circle.proofs.shell_height.half_difference.Tie as tie
+use Rattle.correction.proofs.shell_height.half_difference.Statement.{statement}
+use Rattle.correction.proofs.shell_height.half_difference.Tie as tie
 
 module _ (a b : ℕ) (fits-a : a < 2 ^ 32) (fits-b : b < 2 ^ 32) where
   difference-fits : SFits w64 (subℕ a b)
