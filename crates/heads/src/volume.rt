@@ -12,7 +12,7 @@ use crate::kind::HeadKind;
 use arith::nearest::nearest_quotient;
 use arith::product::nearest_of_product;
 use correction::shell_height::ShellHeight;
-use domes::walk::DomeWalk;
+use dome_walk::walk::DomeWalk;
 use measure::diameter::Diameter;
 use measure::pi::PI_OVER;
 use measure::pi::PI_UNDER;

@@ -10,7 +10,7 @@ ghost use Rattle.heads.specs.Walk.{headsWalkAt};
 ghost use Rattle.heads.specs.WalkLaws.{HeadsNotPast};
 use crate::kind::HeadKind;
 use correction::shell_height::ShellHeight;
-use domes::walk::DomeWalk;
+use dome_walk::walk::DomeWalk;
 use measure::diameter::Diameter;
 
 // On to a height that the walk has not passed.

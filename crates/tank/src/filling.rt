@@ -11,7 +11,7 @@ use crate::cylinder::cylinder_volume;
 use crate::tank::Tank;
 use circle::walk::Walk;
 use correction::shell_height::ShellHeight;
-use domes::walk::DomeWalk;
+use dome_walk::walk::DomeWalk;
 use heads::volume::heads_volume;
 use heads::walk::heads_on_to;
 use measure::dip_height::DipHeight;

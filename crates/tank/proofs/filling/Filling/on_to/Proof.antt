@@ -11,7 +11,7 @@ use Rattle.correction.specs.Correction.{correctedHeight}
 use Rattle.correction.specs.CorrectionLaws.{corrected-at-most}
 use Rattle.circle.specs.declared.walk.Walk.{Walk}
 use Rattle.circle.specs.Walk.{walkAt}
-use Rattle.domes.specs.declared.walk.DomeWalk.{DomeWalk}
+use Rattle.dome_walk.specs.declared.walk.DomeWalk.{DomeWalk}
 use Rattle.heads.specs.declared.kind.HeadKind.{HeadKind}
 use Rattle.heads.specs.Walk.{headsWalkAt}
 use Rattle.tank.specs.FillingLaws.{NotAbove}
