@@ -28,7 +28,7 @@ use Rattle.tank.specs.Tank.{partsOf, filledAt, grossAt}
 use Rattle.deadwood.specs.Item.{deadwood}
 use Rattle.deadwood.specs.Share.{shareSize, share, sharesOf}
 use Rattle.survey.specs.declared.decode.Survey.{Survey}
-use Rattle.table.specs.Rows.{netAt}
+use Rattle.rows.specs.Rows.{netAt}
 use Rattle.mirror.specs.Exact.{exactHeads}
 use Rattle.mirror.specs.Mirrored.{Around}
 
