@@ -1,5 +1,5 @@
 #!/usr/bin/env bash
-# From a shell height there is no way back to a dip height. The compiler takes neither for the other, and a crate that does not list `circle`
+# From a shell height there is no way back to a dip height. The compiler takes neither for the other, and a crate that does not list `correction`
 # can't name a shell height (tests/compiler.sh tries both). What the compiler can't hold is looked for here, in the sources:
 #   rule 1: a crate that can name a shell height can't make a dip height of a number; it calls no `DipHeight::..` and lists no crate that does;
 #   rule 2: a shell height's number is asked for in `circle` and `heads` alone, and in no file that names a dip height;
@@ -17,7 +17,7 @@ crates() { sed -n 's/^\([a-z_]*\):.*/\1/p' crates.txt; }
 near() {
     local crate
     for crate in $(crates); do
-        [[ " $crate $(listed "$crate") " = *" circle "* ]] && grep -rqE '^ *(pub )?fn ' "crates/$crate/src" && echo "$crate"
+        [[ " $crate $(listed "$crate") " = *" correction "* ]] && grep -rqE '^ *(pub )?fn ' "crates/$crate/src" && echo "$crate"
     done
 }
 
@@ -88,14 +88,14 @@ add() { echo "$2" >>"$1"; }
 
 broken "rule 1" add crates/tank/src/filling.rt 'fn back(n: u32) -> DipHeight { DipHeight::of(n) }'
 broken "rule 1" sed -i 's/^tank: /&schedule /' crates.txt
-broken "rule 1" sed -i 's/^lookup: /&circle /' crates.txt
+broken "rule 1" sed -i 's/^lookup: /&correction /' crates.txt
 broken "rule 2" add crates/tank/src/filling.rt 'fn number(h: ShellHeight) -> u64 { h.shell_units() }'
 broken "rule 2" add crates/heads/src/volume.rt 'use measure::dip_height::DipHeight;'
 broken "rule 3" add crates/heads/src/volume.rt 'pub fn level(h: ShellHeight) -> u64 {'
-broken "rule 3" sed -i 's/^impl ShellHeight {/&\n    pub fn number(self) -> u32 {/' crates/circle/src/shell_height.rt
+broken "rule 3" sed -i 's/^impl ShellHeight {/&\n    pub fn number(self) -> u32 {/' crates/correction/src/shell_height.rt
 broken "rule 3" add crates/tank/src/tank.rt '    pub height: ShellHeight,'
 broken "rule 3" sed -i 's/^impl Walk {/&\n    pub fn level(self) -> u64 {\n        self.level\n    }/' crates/circle/src/walk.rt
-broken "rule 4" add crates/tank/src/tank.rt 'pub use circle::shell_height::ShellHeight;'
+broken "rule 4" add crates/tank/src/tank.rt 'pub use correction::shell_height::ShellHeight;'
 broken "rule 4" add crates/tank/src/tank.rt 'use measure::dip_height::DipHeight as Height;'
 cd / && rm -r "$room"
 

@@ -10,7 +10,7 @@ use Rattle.laws.specs.Nearest.{nearest}
 use Rattle.laws.specs.Root.{root, rootUp, rootOf, rootUpOf}
 use Rattle.laws.specs.Sum.{sum}
 use Rattle.measure.specs.Quantity.{diameter}
-use Rattle.circle.specs.Correction.{correctedHeight}
+use Rattle.correction.specs.Correction.{correctedHeight}
 use Rattle.circle.specs.Circle.{chord, chordSquare, chordUp}
 use Rattle.slabs.specs.Slab.{Cut, containsMiddle, smallerFace, largerFace}
 use Rattle.domes.specs.Width.{discSquare, widthOver, fittingWidth, coveringWidth}

@@ -13,7 +13,7 @@ use Rattle.laws.specs.Signed.{sumℤ}
 use Rattle.laws.specs.Sum.{sum}
 use Rattle.measure.specs.Quantity.{diameter}
 use Rattle.circle.specs.Circle.{chord, chordSquare, doubledArea}
-use Rattle.circle.specs.Correction.{correctedHeight}
+use Rattle.correction.specs.Correction.{correctedHeight}
 use Rattle.slabs.specs.Fraction.{_⊕_, _≃_}
 use Rattle.slabs.specs.Slab.{containsMiddle}
 use Rattle.domes.specs.Width.{discSquare, widthOver, fittingWidth, coveringWidth}
@@ -28,7 +28,7 @@ use Rattle.tank.specs.Tank.{partsOf, filledAt, grossAt}
 use Rattle.deadwood.specs.Item.{deadwood}
 use Rattle.deadwood.specs.Share.{shareSize, share, sharesOf}
 use Rattle.survey.specs.declared.decode.Survey.{Survey}
-use Rattle.table.specs.Rows.{netAt}
+use Rattle.rows.specs.Rows.{netAt}
 use Rattle.mirror.specs.Exact.{exactHeads}
 use Rattle.mirror.specs.Mirrored.{Around}
 

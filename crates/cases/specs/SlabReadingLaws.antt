@@ -10,7 +10,7 @@ use borrow.Author.Tests.{leb-true, leb-false}
 use Rattle.laws.specs.Root.{root, rootUp}
 use Rattle.laws.specs.Sum.{sum}
 use Rattle.measure.specs.Quantity.{diameter}
-use Rattle.circle.specs.Correction.{correctedHeight}
+use Rattle.correction.specs.Correction.{correctedHeight}
 use Rattle.circle.specs.Circle.{chord, chordSquare, chordUp}
 use Rattle.slabs.specs.Fraction.{whole, _⊕_, _⊑_}
 use Rattle.slabs.specs.Slab.{Cut, containsMiddle, smallerFace, largerFace}

@@ -1,5 +1,4 @@
--- A dome, a spherical cap head (document 02, E2): its level width (Width), its cells (Cell), their totals (Dome), and the dome as the code walks
--- it (Walk). The other files are laws.
+-- A dome, a spherical cap head (document 02, E2): its level width (Width), its cells (Cell) and their totals (Dome). The other files are laws.
 pub mod Width
 pub mod WidthLaws
 pub mod Cell
@@ -7,8 +6,3 @@ pub mod CellLaws
 pub mod Dome
 pub mod TotalLaws
 pub mod CutLaws
-pub mod QuotientLaws
-pub mod Walk
-pub mod WalkLaws
-pub mod LevelLaws
-pub mod BegunLaws

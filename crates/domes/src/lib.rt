@@ -1,5 +1,1 @@
-// The domes of a tank with spherical cap heads: the widths of a dome, and the totals of its cells as a walk up the levels.
-mod face;
-mod level;
-pub mod walk;
-mod widths;
+// No code: the dome is defined here, in specs/; `dome_walk` works it out.

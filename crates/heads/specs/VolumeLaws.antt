@@ -10,8 +10,7 @@ use Rattle.measure.specs.Diameter.{largest}
 use Rattle.measure.specs.Quantity.{cubicPerV}
 use Rattle.measure.specs.Pi.{piOver, piUnder}
 use Rattle.domes.specs.Dome.{domeFitting, domeCovering}
-use Rattle.domes.specs.TotalLaws.{fitting-mono, covering-mono}
-use Rattle.domes.specs.BegunLaws.{dome-at-most}
+use Rattle.domes.specs.TotalLaws.{fitting-mono, covering-mono, dome-at-most}
 use Rattle.heads.specs.declared.kind.HeadKind.{HeadKind}
 use Rattle.heads.specs.declared.kind.HeadKind.the-variants.{Flat, HalfEllipsoid, SphericalCap}
 use Rattle.heads.specs.Length.{longest}

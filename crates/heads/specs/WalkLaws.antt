@@ -4,10 +4,10 @@ use Prim.Native.Nat.{ℕ, _≤_}
 use mathlib.Core.Path.{_≡_, refl, sym, _∙_, ap}
 use native.Mathlib.Omega.{arith}
 use Rattle.measure.specs.Diameter.{largest}
-use Rattle.domes.specs.declared.walk.DomeWalk.{DomeWalk}
-use Rattle.domes.specs.Walk.{begun, domesAt, noneBegun}
-use Rattle.domes.specs.WalkLaws.{DomeLimits}
-use Rattle.domes.specs.BegunLaws.{none-begun}
+use Rattle.dome_walk.specs.declared.walk.DomeWalk.{DomeWalk}
+use Rattle.dome_walk.specs.Walk.{begun, domesAt, noneBegun}
+use Rattle.dome_walk.specs.WalkLaws.{DomeLimits}
+use Rattle.dome_walk.specs.BegunLaws.{none-begun}
 use Rattle.heads.specs.declared.kind.HeadKind.{HeadKind}
 use Rattle.heads.specs.declared.kind.HeadKind.the-variants.{Flat, HalfEllipsoid, SphericalCap}
 use Rattle.heads.specs.LengthLaws.{HeadLimits, cap-limits}

@@ -4,13 +4,13 @@ ghost use mathlib.Core.Path.{_≡_};
 ghost use Prim.Native.Nat.{_≤_};
 ghost use Rattle.measure.specs.Diameter.{largest};
 ghost use Rattle.measure.specs.Quantity.{diameterUnits};
-ghost use Rattle.circle.specs.ShellHeight.{shellUnits};
+ghost use Rattle.correction.specs.ShellHeight.{shellUnits};
 ghost use Rattle.heads.specs.LengthLaws.{HeadLimits};
 ghost use Rattle.heads.specs.Walk.{headsWalkAt};
 ghost use Rattle.heads.specs.WalkLaws.{HeadsNotPast};
 use crate::kind::HeadKind;
-use circle::shell_height::ShellHeight;
-use domes::walk::DomeWalk;
+use correction::shell_height::ShellHeight;
+use dome_walk::walk::DomeWalk;
 use measure::diameter::Diameter;
 
 // On to a height that the walk has not passed.

@@ -6,7 +6,7 @@ use mathlib.Core.List.{List, [], _∷_, map}
 use native.Mathlib.Omega.{arith}
 use lib.ListN.{length}
 use Rattle.measure.specs.Quantity.{diameterUnits}
-use Rattle.circle.specs.CorrectionLaws.{corrected-same}
+use Rattle.correction.specs.CorrectionLaws.{corrected-same}
 use Rattle.tank.specs.declared.tank.Tank.{Tank}
 use Rattle.tank.specs.Part.{Part, volumeOf, gross}
 use Rattle.tank.specs.Tank.{partsOf, filledTo, filledAt, grossAt}

@@ -15,14 +15,14 @@ use Rattle.tank.specs.Tank.{grossAt}
 use Rattle.survey.specs.declared.decode.Survey.{Survey}
 use Rattle.survey.specs.Survey.{decoded}
 use Rattle.survey.specs.SurveyLaws.{SurveyLimits, decoded-fits}
+use Rattle.rows.specs.Rows.{rowsIn, heightOf, grossRow}
+use Rattle.rows.specs.RowLaws.{net-is-gross}
 use Rattle.table.specs.declared.make.Made.{Made}
-use Rattle.table.specs.Rows.{rowsIn, heightOf, grossRow}
 use Rattle.table.specs.Tests.{tableTests}
 use Rattle.table.specs.Answer.{made, tableLeft}
 use Rattle.table.specs.AnswerLaws.{made-table}
 use Rattle.table.specs.Condition3.{NetRowAt, EveryRow}
 use Rattle.table.specs.Condition3Laws.{net-rows-left}
-use Rattle.table.specs.NoDeadwoodLaws.{net-is-gross}
 use Rattle.mirror.specs.Mirrored.{MirroredTank, MirroredSurvey, mirrorTolerance, Around}
 use Rattle.mirror.specs.GrossLaws.{gross-mirrored}
 

@@ -10,7 +10,7 @@ use Rattle.refusal.specs.declared.Verdict.the-variants.{Passed, Refused}
 use Rattle.schedule.specs.Rows.{mostRows}
 use Rattle.survey.specs.declared.decode.Decoded.{Decoded}
 use Rattle.survey.specs.declared.decode.Survey.{Survey}
-use Rattle.table.specs.Rows.{tableOf}
+use Rattle.rows.specs.Rows.{tableOf}
 use Rattle.table.specs.Answer.{verdictOn}
 use Rattle.lookup.specs.declared.litres.LitresAnswer.{LitresAnswer}
 use Rattle.lookup.specs.declared.height.HeightAnswer.{HeightAnswer}

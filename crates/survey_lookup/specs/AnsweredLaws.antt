@@ -25,7 +25,7 @@ use Rattle.schedule.specs.Rows.{mostRows}
 use Rattle.survey.specs.declared.decode.Decoded.{Decoded}
 use Rattle.survey.specs.declared.decode.Survey.{Survey}
 use Rattle.survey.specs.SurveyLaws.{WithinLimits}
-use Rattle.table.specs.Rows.{rowsIn, netRow, cellOf, tableOf}
+use Rattle.rows.specs.Rows.{rowsIn, netRow, cellOf, tableOf}
 use Rattle.table.specs.Tests.{tableTests}
 use Rattle.table.specs.RowTestLaws.{none-falls, none-below-zero}
 use Rattle.table.specs.Answer.{verdictOn}

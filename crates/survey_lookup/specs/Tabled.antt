@@ -9,7 +9,7 @@ use Rattle.refusal.specs.declared.Verdict.the-variants.{Passed, Refused}
 use Rattle.schedule.specs.Rows.{mostRows}
 use Rattle.survey.specs.declared.decode.Decoded.{Decoded}
 use Rattle.survey.specs.declared.decode.Survey.{Survey}
-use Rattle.table.specs.Rows.{rowsIn}
+use Rattle.rows.specs.Rows.{rowsIn}
 use Rattle.table.specs.Answer.{verdictOn, tableLeft}
 use Rattle.lookup.specs.Table.{row}
 use Rattle.survey_lookup.specs.declared.Tabled.{Tabled}

@@ -6,7 +6,7 @@ ghost use Rattle.measure.specs.Quantity.{dipUnits, volumeUnits};
 ghost use Rattle.refusal.specs.declared.Verdict.the-variants.{Passed};
 ghost use Rattle.survey.specs.declared.decode.Decoded.{Decoded};
 ghost use Rattle.survey.specs.Survey.{decoded};
-ghost use Rattle.table.specs.Rows.{rowsIn, tableOf};
+ghost use Rattle.rows.specs.Rows.{rowsIn, tableOf};
 ghost use Rattle.lookup.specs.Table.{row};
 ghost use Rattle.survey_lookup.specs.Answer.{litresIn, litresFrom, ReadOffOwn, heightIn, heightFrom, ReachedOwn};
 ghost use Rattle.survey_lookup.specs.Answer.{deliveredIn, deliveredFrom, ReadOffBothOwn, AsFromFile};

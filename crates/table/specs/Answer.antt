@@ -9,9 +9,9 @@ use Rattle.refusal.specs.declared.Verdict.the-variants.{Passed, Refused}
 use Rattle.refusal.specs.Test.{verdict, firstRefusal}
 use Rattle.survey.specs.declared.decode.Decoded.{Decoded}
 use Rattle.survey.specs.declared.decode.Survey.{Survey}
+use Rattle.rows.specs.Rows.{rowsIn, cellOf}
 use Rattle.table.specs.declared.make.Made.{Made}
 use Rattle.table.specs.declared.make.Made.the-variants as answers
-use Rattle.table.specs.Rows.{rowsIn, cellOf}
 use Rattle.table.specs.Tests.{tableTests}
 
 -- refusals 1 to 9 and 14, for a lent table of so many cells

@@ -9,9 +9,9 @@ use Rattle.slabs.specs.Slab.{Cut, Some}
 use Rattle.tank.specs.Tank.{filledAt}
 use Rattle.tank.specs.Condition3.{Condition3}
 use Rattle.survey.specs.declared.decode.Survey.{Survey}
+use Rattle.rows.specs.Rows.{sharesAt, heightOf, grossRow, netRow}
 use Rattle.table.specs.declared.make.Made.{Made}
 use Rattle.table.specs.declared.make.Made.the-variants as answers
-use Rattle.table.specs.Rows.{sharesAt, heightOf, grossRow, netRow}
 
 -- the cell of row i, as a signed number, is the net row
 abbrev pub NetRowAt : Survey → List ℕ → ℕ → Type 0

@@ -18,7 +18,7 @@ use Rattle.tank.specs.Condition3Laws.{condition3}
 use Rattle.survey.specs.declared.decode.Decoded.{Decoded}
 use Rattle.survey.specs.declared.decode.Survey.{Survey}
 use Rattle.survey.specs.SurveyLaws.{SurveyLimits, WithinLimits}
-use Rattle.table.specs.Rows.{sharesAt, netAt, rowsIn, heightOf, grossRow, netRow, cellOf}
+use Rattle.rows.specs.Rows.{sharesAt, netAt, rowsIn, heightOf, grossRow, netRow, cellOf}
 use Rattle.table.specs.Tests.{tableTests}
 use Rattle.table.specs.RowTestLaws.{none-below-zero}
 use Rattle.table.specs.Answer.{verdictOn, answerBy, leftBy, made, tableLeft}

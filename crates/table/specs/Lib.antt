@@ -1,10 +1,7 @@
--- From a survey to its table: gross and net rows, the tests of the table, the call's whole answer, and condition 3 of what it writes;
--- then the laws of these.
-pub mod Rows
+-- From a survey to its table: the tests of the rows, the call's whole answer, and condition 3 of what it writes; then the laws of these.
 pub mod Tests
 pub mod Answer
 pub mod Condition3
-pub mod RowLaws
 pub mod RowTestLaws
 pub mod AnswerLaws
 pub mod RetiredLaws

@@ -6,27 +6,21 @@ use mathlib.Core.Bool.{true}
 use native.Mathlib.Numerals.{add-one}
 use native.Mathlib.Omega.{arith}
 use borrow.Author.Tests.{le-leb}
-use lib.IntN.{pos, +ℤ-idr}
 use Rattle.measure.specs.Quantity.{diameterUnits}
 use Rattle.refusal.specs.declared.Verdict.the-variants.{Passed}
 use Rattle.refusal.specs.Test.{verdict, items}
 use Rattle.refusal.specs.TestLaws.{all-passed}
 use Rattle.schedule.specs.RowsLaws.{height-next}
-use Rattle.tank.specs.Tank.{grossAt}
 use Rattle.tank.specs.RiseLaws.{gross-mono}
-use Rattle.deadwood.specs.ListLaws.{no-shares-of-none}
 use Rattle.survey.specs.declared.decode.Decoded.{Decoded}
 use Rattle.survey.specs.declared.decode.Survey.{Survey}
 use Rattle.survey.specs.SurveyLaws.{SurveyLimits, WithinLimits}
+use Rattle.rows.specs.Rows.{rowsIn, heightOf, netRow}
+use Rattle.rows.specs.RowLaws.{net-is-gross}
 use Rattle.table.specs.declared.make.Made.{Made}
-use Rattle.table.specs.Rows.{netAt, rowsIn, heightOf, netRow}
 use Rattle.table.specs.Tests.{keepsUp, fallTest, tableTests}
 use Rattle.table.specs.RowTestLaws.{room-enough}
 use Rattle.table.specs.Answer.{made}
-
-pub net-is-gross : (v : Survey) → v .count ≡ 0 → (h : ℕ) → netAt v h ≡ pos (grossAt (v .tank) h)
-unfolding netAt
-net-is-gross v no-items h = rw (no-items, no-shares-of-none h) (+ℤ-idr _)
 
 module _ (v : Survey) (limits : SurveyLimits v) (no-items : v .count ≡ 0) where
   keeps-up : (i : ℕ) → keepsUp (netRow v) i ≡ true

@@ -9,7 +9,7 @@ use Rattle.file.specs.declared.format.Format.{Format}
 use Rattle.survey.specs.declared.decode.Survey.{Survey}
 use Rattle.survey.specs.Survey.{decodedAs}
 use Rattle.survey.specs.NumberedLaws.{file-in-use}
-use Rattle.table.specs.Rows.{rowsIn, netRow}
+use Rattle.rows.specs.Rows.{rowsIn, netRow}
 use Rattle.table.specs.Tests.{fallTest, rowTests, tableTests}
 use Rattle.table.specs.Answer.{verdictOn}
 

@@ -16,8 +16,8 @@ use Rattle.tank.specs.TotalLaws.{InWords, in-words}
 use Rattle.deadwood.specs.Share.{sharesOf}
 use Rattle.survey.specs.declared.decode.Survey.{Survey}
 use Rattle.survey.specs.Survey.{itemsIn}
+use Rattle.rows.specs.Rows.{netAt}
 use Rattle.table.specs.declared.make.Made.{Made}
-use Rattle.table.specs.Rows.{netAt}
 use Rattle.table.specs.Condition3.{NetRowAt, Condition3At, EveryRow}
 
 -- a cut for each of the three parts

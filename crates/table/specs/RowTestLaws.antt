@@ -1,10 +1,9 @@
 -- The tests of a table look at nothing but the rows, and what they say where they refuse nothing: no row falls, and none is below zero, though
 -- none is tested for that. Assumes nothing.
-use Prim.Native.Nat.{ℕ, zero, suc, _*_, _-_, _≤_, _<_}
+use Prim.Native.Nat.{ℕ, zero, suc, _-_, _≤_, _<_}
 use mathlib.Core.Path.{_≡_, refl, sym}
 use mathlib.Core.Bool.{true}
 use mathlib.Core.List.{List, _++_}
-use native.Mathlib.Nat.{min-le-left, zero-mul}
 use native.Mathlib.Omega.{arith}
 use borrow.Author.Tests.{le-leb}
 use lib.Dec.{leb}
@@ -12,17 +11,13 @@ use lib.IntN.{ℤ, pos, negsuc}
 use lib.Signed.{leZ, nonNeg}
 use Rattle.laws.specs.Fill.{rowsOf}
 use Rattle.laws.specs.BoolLaws.{true-not-false}
-use Rattle.measure.specs.Quantity.{diameterUnits}
 use Rattle.refusal.specs.declared.Verdict.the-variants.{Passed}
 use Rattle.refusal.specs.Test.{verdict, items}
 use Rattle.refusal.specs.TestLaws.{passed-pick, passed-items, passed-all, items-agree}
-use Rattle.schedule.specs.Rows.{rowHeight}
-use Rattle.deadwood.specs.ListLaws.{no-shares-at-bottom}
 use Rattle.survey.specs.declared.decode.Survey.{Survey}
-use Rattle.survey.specs.Survey.{itemsIn}
-use Rattle.table.specs.Rows.{netAt, rowsIn, heightOf, netRow}
+use Rattle.rows.specs.Rows.{rowsIn, netRow}
+use Rattle.rows.specs.RowLaws.{netOf, front-row, row-0-not-below-zero}
 use Rattle.table.specs.Tests.{keepsUp, fallTest, rowTests, tableTests}
-use Rattle.table.specs.RowLaws.{netOf, front-row}
 
 -- as the code tests them
 pub keepsUp-before : (row : ℕ → ℤ) (i : ℕ) → (i ≡ 0 → ⊥) → keepsUp row i ≡ leZ (row (i - 1)) (row i)
@@ -45,13 +40,6 @@ unfolding rowTests
 front-tests f n rest cells =
     let row = netOf (rowsOf f n ++ rest) in
     rw (items-agree n (fallTest row) (fallTest f) (falls-agree n row f (front-row f n rest)))
-
--- at height 0 no deadwood item has taken anything
-row-0-not-below-zero : (v : Survey) → nonNeg (netRow v 0) ≡ true
-unfolding netAt rowHeight
-row-0-not-below-zero v =
-    let bottom : heightOf v 0 ≡ 0 = omega (arith, min-le-left (0 * v .step) (diameterUnits (v .tank .dh)), zero-mul (v .step)) in
-    rw (bottom, no-shares-at-bottom (itemsIn v))
 
 not-below-zero-again : (y z : ℤ) → nonNeg y ≡ true → leZ y z ≡ true → nonNeg z ≡ true
 not-below-zero-again (pos m) (pos n) a e = refl

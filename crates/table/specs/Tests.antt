@@ -8,7 +8,7 @@ use lib.IntN.{ℤ}
 use lib.Signed.{leZ}
 use Rattle.refusal.specs.Test.{Test, test, items}
 use Rattle.survey.specs.declared.decode.Survey.{Survey}
-use Rattle.table.specs.Rows.{rowsIn, netRow}
+use Rattle.rows.specs.Rows.{rowsIn, netRow}
 
 -- row i is not below the row before; the row at height 0 has none before it
 abbrev pub keepsUp : (ℕ → ℤ) → ℕ → Bool

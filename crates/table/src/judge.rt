@@ -5,11 +5,11 @@ ghost use Rattle.schedule.specs.Rows.{mostRows};
 ghost use Rattle.survey.specs.SurveyLaws.{SurveyLimits, WithinLimits};
 ghost use Rattle.table.specs.Tests.{tableTests};
 ghost use Rattle.table.specs.Answer.{verdictOn};
-use crate::rows::net_rows;
 use crate::tests::rows_tested;
 use refusal::Verdict;
+use rows::net_rows;
+use rows::rows_in;
 use schedule::MOST_ROWS;
-use schedule::row_count;
 use survey::decode::Decoded;
 use survey::decode::Survey;
 
@@ -17,9 +17,7 @@ fn rows_judged(v: Survey) -> Verdict
     requires { ⌜ SurveyLimits v ⌝ }
     ensures { λ r. ⌜ r ≡ verdict (tableTests v mostRows) ⌝ }
 {
-    let tank = v.tank;
-    let dh = tank.dh;
-    let rows = row_count(dh.units(), v.step);
+    let rows = rows_in(v);
     let mut net = [0i64; MOST_ROWS];
     net_rows(v, rows, &mut net);
     rows_tested(&net, rows)

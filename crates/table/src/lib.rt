@@ -2,5 +2,4 @@
 mod copy;
 pub mod judge;
 pub mod make;
-mod rows;
 mod tests;

@@ -1,20 +1,22 @@
 // The call that makes a table from a survey.
 ghost use mathlib.Core.Path.{_≡_};
+ghost use Prim.Native.Nat.{_≤_};
 ghost use lib.ListN.{length};
 ghost use Rattle.refusal.specs.Test.{verdict};
+ghost use Rattle.schedule.specs.Rows.{mostRows};
 ghost use Rattle.survey.specs.Survey.{decoded};
 ghost use Rattle.survey.specs.SurveyLaws.{SurveyLimits, WithinLimits};
-ghost use Rattle.table.specs.Rows.{rowsIn, cellOf};
+ghost use Rattle.rows.specs.Rows.{rowsIn, cellOf};
 ghost use Rattle.table.specs.Tests.{tableTests};
 ghost use Rattle.table.specs.Answer.{leftBy, answerBy, made, tableLeft};
 ghost use Rattle.table.specs.Condition3.{EveryRow, NetRowAt, Condition3At};
 use crate::copy::test_and_copy;
-use crate::rows::net_rows;
 use measure::diameter::Diameter;
 use refusal::Refusal;
 use refusal::Verdict;
+use rows::net_rows;
+use rows::rows_in;
 use schedule::MOST_ROWS;
-use schedule::row_count;
 use survey::decode::Decoded;
 use survey::decode::Survey;
 use survey::decode::decode;
@@ -26,32 +28,38 @@ pub enum Made {
 }
 
 // The net rows are worked out apart, tested, and copied last.
-fn fill(v: Survey, table: &mut [u32]) -> Verdict
-    requires { ⌜ SurveyLimits v ⌝ }
+fn fill(v: Survey, rows: usize, table: &mut [u32]) -> Verdict
+    requires { ⌜ SurveyLimits v × (rows ≡ rowsIn v) × (rows ≤ mostRows) ⌝ }
     ensures { λ r. ⌜ r ≡ verdict (tableTests v (length (now (table .entry)))) ⌝ }
     ensures { λ r. ⌜ now (table .exit) ≡ leftBy r (cellOf v) (rowsIn v) (now (table .entry)) ⌝ }
 {
-    let tank = v.tank;
-    let dh = tank.dh;
-    let rows = row_count(dh.units(), v.step);
     let mut net = [0i64; MOST_ROWS];
     net_rows(v, rows, &mut net);
     test_and_copy(&net, rows, table)
 }
 
 // The answer for a survey that is not refused, by the verdict on its rows.
-fn answer(v: Survey, verdict: Verdict) -> Made
-    requires { ⌜ SurveyLimits v ⌝ }
+fn answer(v: Survey, rows: usize, verdict: Verdict) -> Made
+    requires { ⌜ (rows ≡ rowsIn v) × (rows ≤ mostRows) ⌝ }
     ensures { λ r. ⌜ r ≡ answerBy verdict v ⌝ }
 {
     let tank = v.tank;
     let d1 = tank.d1;
     let d2 = tank.d2;
-    let dh = tank.dh;
     match verdict {
         Verdict::Refused(r) => Made::Refused(r),
-        Verdict::Passed => Made::Table(d1, d2, row_count(dh.units(), v.step) as u32),
+        Verdict::Passed => Made::Table(d1, d2, rows as u32),
     }
+}
+
+// The answer for a survey that is not refused, and its rows in the table.
+fn fill_and_answer(v: Survey, table: &mut [u32]) -> Made
+    requires { ⌜ SurveyLimits v ⌝ }
+    ensures { λ r. ⌜ r ≡ answerBy (verdict (tableTests v (length (now (table .entry))))) v ⌝ }
+    ensures { λ r. ⌜ now (table .exit) ≡ leftBy (verdict (tableTests v (length (now (table .entry))))) (cellOf v) (rowsIn v) (now (table .entry)) ⌝ }
+{
+    let rows = rows_in(v);
+    answer(v, rows, fill(v, rows, table))
 }
 
 // From a decoded file and any table: the whole answer, what the table holds afterwards, and of every row that was written that it is
@@ -67,7 +75,7 @@ pub fn tabulate(file: Decoded, table: &mut [u32]) -> Made
     let v = file.survey;
     match verdict {
         Verdict::Refused(r) => Made::Refused(r),
-        Verdict::Passed => answer(v, fill(v, table)),
+        Verdict::Passed => fill_and_answer(v, table),
     }
 }
 

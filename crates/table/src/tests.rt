@@ -3,8 +3,8 @@ ghost use mathlib.Core.Path.{_≡_};
 ghost use Prim.Native.Nat.{_^_, _≤_, _<_};
 ghost use lib.ListN.{length};
 ghost use Rattle.refusal.specs.Test.{verdict, items};
+ghost use Rattle.rows.specs.RowLaws.{netOf};
 ghost use Rattle.table.specs.Tests.{keepsUp, fallTest};
-ghost use Rattle.table.specs.RowLaws.{netOf};
 use refusal::Verdict;
 use refusal::next_test;
 

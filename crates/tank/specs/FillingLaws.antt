@@ -4,7 +4,7 @@ use Prim.Native.Nat.{ℕ, _≤_}
 use mathlib.Core.Path.{_≡_, refl, sym, _∙_, ap}
 use native.Mathlib.Omega.{arith}
 use Rattle.measure.specs.Quantity.{diameterUnits}
-use Rattle.circle.specs.CorrectionLaws.{corrected-mono}
+use Rattle.correction.specs.CorrectionLaws.{corrected-mono}
 use Rattle.circle.specs.declared.walk.Walk.{Walk}
 use Rattle.circle.specs.Walk.{walkAt}
 use Rattle.heads.specs.Walk.{headsWalkAt}

@@ -6,7 +6,7 @@ use native.Mathlib.Nat.{le-refl, add-le-add, mul-le-mul-right}
 use native.Mathlib.Omega.{arith}
 use Rattle.laws.specs.NearestLaws.{nearest-mono}
 use Rattle.measure.specs.Quantity.{diameterUnits, cubicPerV}
-use Rattle.circle.specs.CorrectionLaws.{corrected-mono}
+use Rattle.correction.specs.CorrectionLaws.{corrected-mono}
 use Rattle.circle.specs.AreaLaws.{area-mono}
 use Rattle.heads.specs.VolumeLaws.{heads-mono}
 use Rattle.tank.specs.declared.tank.Tank.{Tank}

@@ -3,7 +3,7 @@
 use Prim.Native.Nat.{ℕ, _*_}
 use mathlib.Core.List.{List, [], _∷_, map}
 use Rattle.measure.specs.Quantity.{diameterUnits}
-use Rattle.circle.specs.Correction.{correctedHeight}
+use Rattle.correction.specs.Correction.{correctedHeight}
 use Rattle.tank.specs.declared.tank.Tank.{Tank}
 use Rattle.tank.specs.Part.{Part, cylinder, headPair, Filled, gross}
 

@@ -4,8 +4,8 @@ use mathlib.Core.Path.{_≡_}
 use native.Mathlib.Omega.{arith}
 use Rattle.measure.specs.Diameter.{smallest, largest}
 use Rattle.measure.specs.Quantity.{diameterUnits}
-use Rattle.circle.specs.Correction.{correctedHeight}
-use Rattle.circle.specs.CorrectionLaws.{corrected-at-most}
+use Rattle.correction.specs.Correction.{correctedHeight}
+use Rattle.correction.specs.CorrectionLaws.{corrected-at-most}
 use Rattle.heads.specs.LengthLaws.{HeadLimits}
 use Rattle.heads.specs.Volume.{headsVolume}
 use Rattle.heads.specs.VolumeLaws.{mostHeads}

@@ -2,7 +2,7 @@
 use mathlib.Core.Path.{_∙_, ap₂}
 use Prim.Native.Nat.{ℕ}
 use borrow.Author.Needs.{needs}
-use Rattle.domes.specs.Walk.{begun, domesAt}
+use Rattle.dome_walk.specs.Walk.{begun, domesAt}
 use Rattle.heads.specs.WalkLaws.{dome-limits, dome-not-past}
 use Rattle.heads.proofs.walk.heads_on_to.Statement.{statement}
 use Rattle.heads.proofs.walk.heads_on_to.Tie as tie

@@ -8,7 +8,7 @@ use mir.Syntax.{w64}
 use mir.ValLaws.{toZ-ofZ}
 use Rattle.laws.specs.FillLaws.{Filled, filled-none, filled-more, filled-all}
 use Rattle.laws.specs.SignedLaws.{mag-at-most}
-use Rattle.table.specs.RowLaws.{netOf, cellIn}
+use Rattle.rows.specs.RowLaws.{netOf, cellIn}
 use Rattle.table.proofs.copy.copy_rows.Statement.{statement}
 use Rattle.table.proofs.copy.copy_rows.Tie as tie
 

@@ -2,7 +2,7 @@
 use mathlib.Core.Path.{sym, _∙_, ap}
 use lib.ListN.{length}
 use Rattle.refusal.specs.Test.{verdict, firstRefusal}
-use Rattle.table.specs.Rows.{rowsIn, cellOf}
+use Rattle.rows.specs.Rows.{rowsIn, cellOf}
 use Rattle.table.specs.Tests.{tableTests}
 use Rattle.table.specs.Answer.{leftBy, answerBy, made, tableLeft}
 use Rattle.table.specs.Condition3Laws.{net-rows-left, condition3-left}
@@ -10,35 +10,35 @@ use borrow.Author.Needs.{needs}
 use Rattle.table.proofs.make.tabulate.Statement.{statement}
 use Rattle.table.proofs.make.tabulate.Tie as tie
 
-fill-requires : tie.Need-fill-requires
-fill-requires c κs = c .before .before .before .before .before .pre (c .before .enum-told .given .1)
-
-answer-requires : tie.Need-answer-requires
-answer-requires c κs = c .before .before .before .before .before .before .before .before .pre (c .before .before .before .before .enum-told .given .1)
+fill-and-answer-requires : tie.Need-fill-and-answer-requires
+fill-and-answer-requires c κs =
+    let told = c .before in
+    told .before .before .before .before .pre (told .enum-told .given .1)
 
 returns : tie.Need-returns
 unfolding made tableLeft
 returns c =
-    let v = c .before .before .before .before .before .args .file .survey in
-    let table = c .before .before .before .before .before .args .table .now in
+    let a = c .before .before .before .before .before .args in
+    let v = a .file .survey in
+    let table = a .table .now in
     let refused = ap (λ w. firstRefusal w (verdict (tableTests v (length table)))) (c .before .verdict .given .1) in
     (sym (ap (λ w. answerBy w v) refused), (sym (ap (λ w. leftBy w (cellOf v) (rowsIn v) table) refused), (tt, tt)))
 
 returns-2 : tie.Need-returns-2
 unfolding made tableLeft
 returns-2 c =
-    let file = c .before .before .before .before .before .before .before .before .before .args .file in
+    let filled = c .before .before in
+    let told = filled .before .before in
+    let start = told .before .before .before .before in
+    let file = start .args .file in
     let v = file .survey in
-    let table = c .before .before .before .before .before .before .before .before .before .args .table .now in
-    let on = ap (λ w. firstRefusal w (verdict (tableTests v (length table)))) (c .before .before .before .before .before .enum-told .given .1) in
-    let judged = c .before .before .before .fill .ensures .0 ∙ sym on in
-    let given = c .answer .ensures ∙ ap (λ w. answerBy w v) judged in
-    let left = c .before .before .before .fill .ensures .1 ∙ ap (λ w. leftBy w (cellOf v) (rowsIn v) table) judged in
-    let within = c .before .before .before .before .before .before .before .before .before .pre in
-    (given, (left, (rw (given, left) (net-rows-left file table), rw (given, left) (condition3-left file table within))))
+    let table = start .args .table .now in
+    let on = sym (ap (λ w. firstRefusal w (verdict (tableTests v (length table)))) (told .enum-told .given .1)) in
+    let given = filled .fill-and-answer .ensures .0 ∙ ap (λ w. answerBy w v) on in
+    let left = filled .fill-and-answer .ensures .1 ∙ ap (λ w. leftBy w (cellOf v) (rowsIn v) table) on in
+    (given, (left, (rw (given, left) (net-rows-left file table), rw (given, left) (condition3-left file table (start .pre)))))
 
 pub tabulate-spec : {M : Type 1} → statement M
 tabulate-spec =
     tie.close
-    (tie.spec (λ c. search needs) (λ c. search needs) fill-requires answer-requires returns (λ c. search needs)
-    returns-2)
+    (tie.spec (λ c. search needs) (λ c. search needs) fill-and-answer-requires returns (λ c. search needs) returns-2)

@@ -4,7 +4,7 @@ use Prim.Native.Nat.{_-_}
 use lib.Signed.{leZ}
 use mir.Syntax.{w64}
 use mir.ValLaws.{toZ-ofZ}
-use Rattle.table.specs.RowLaws.{netOf}
+use Rattle.rows.specs.RowLaws.{netOf}
 use Rattle.table.specs.RowTestLaws.{keepsUp-before}
 use borrow.Author.Needs.{needs}
 use Rattle.table.proofs.tests.keeps_up.Statement.{statement}

@@ -6,8 +6,8 @@ use Prim.Native.Nat.{ℕ, _-_, _≤_}
 use native.Mathlib.Omega.{arith}
 use Rattle.refusal.specs.Test.{test, verdict, items, firstRefusal}
 use Rattle.refusal.specs.TestLaws.{verdict-next}
+use Rattle.rows.specs.RowLaws.{netOf}
 use Rattle.table.specs.Tests.{fallTest}
-use Rattle.table.specs.RowLaws.{netOf}
 use Rattle.table.proofs.tests.rows_tested.Statement.{statement}
 use Rattle.table.proofs.tests.rows_tested.Tie as tie
 

@@ -7,9 +7,9 @@ use Rattle.laws.specs.Nearest.{nearest}
 use Rattle.measure.specs.Diameter.{largest}
 use Rattle.measure.specs.declared.volume.Volume.{Volume}
 use Rattle.measure.specs.Quantity.{diameterUnits, dipUnits, volume, volumeUnits, cubicPerV}
-use Rattle.circle.specs.declared.shell_height.ShellHeight.{ShellHeight}
-use Rattle.circle.specs.ShellHeight.{shellHeight, shellUnits}
-use Rattle.circle.specs.CorrectionLaws.{corrected-at-most}
+use Rattle.correction.specs.declared.shell_height.ShellHeight.{ShellHeight}
+use Rattle.correction.specs.ShellHeight.{shellHeight, shellUnits}
+use Rattle.correction.specs.CorrectionLaws.{corrected-at-most}
 use Rattle.circle.specs.Circle.{doubledArea}
 use Rattle.heads.specs.declared.kind.HeadKind.{HeadKind}
 use Rattle.heads.specs.Volume.{headsVolume}

@@ -5,13 +5,13 @@ use Prim.Native.Nat.{ℕ, _^_, _≤_, _<_}
 use native.Mathlib.Omega.{arith}
 use borrow.Author.Needs.{needs}
 use Rattle.measure.specs.Diameter.{largest}
-use Rattle.circle.specs.declared.shell_height.ShellHeight.{ShellHeight}
-use Rattle.circle.specs.ShellHeight.{shellHeight, shellUnits}
-use Rattle.circle.specs.Correction.{correctedHeight}
-use Rattle.circle.specs.CorrectionLaws.{corrected-at-most}
+use Rattle.correction.specs.declared.shell_height.ShellHeight.{ShellHeight}
+use Rattle.correction.specs.ShellHeight.{shellHeight, shellUnits}
+use Rattle.correction.specs.Correction.{correctedHeight}
+use Rattle.correction.specs.CorrectionLaws.{corrected-at-most}
 use Rattle.circle.specs.declared.walk.Walk.{Walk}
 use Rattle.circle.specs.Walk.{walkAt}
-use Rattle.domes.specs.declared.walk.DomeWalk.{DomeWalk}
+use Rattle.dome_walk.specs.declared.walk.DomeWalk.{DomeWalk}
 use Rattle.heads.specs.declared.kind.HeadKind.{HeadKind}
 use Rattle.heads.specs.Walk.{headsWalkAt}
 use Rattle.tank.specs.FillingLaws.{NotAbove}
