@@ -1,6 +1,7 @@
 #!/usr/bin/env bash
-# The rooms are as docs/ARCHITECTURE.md draws them: its 'knows' column is that of crates.txt, and above `survey` nobody cites what reads
-# bytes but `rewrite`, which writes a file. Says what it looked at; a sample that breaks each rule is seen to be found.
+# The rooms are as docs/ARCHITECTURE.md draws them: its 'knows' column is that of crates.txt, and above the file's rooms (`file`, `numbers`,
+# `dimensions`, `survey`) nobody sees a byte but `rewrite`, which writes a file, and `fault`, which says what a refusal is about. Others name a format, which is a
+# value, the formulas of `dimensions`, which are over numbers, and of `survey` no test. Says what it looked at; a sample that breaks each rule is seen to be found.
 . "$(dirname "$0")/failures.sh"
 
 # The rooms that a line of crates.txt, or a row of the table, names. The kit's crates are left out.
@@ -16,22 +17,33 @@ differing() {
     done
 }
 
-# what reads bytes, cited by another crate than survey and rewrite
-bytes_seen() { grep -rnE --exclude-dir=rewrite 'Rattle\.survey\.specs\.(Word|Layout|Limits|Section|Item|Reading|Tests|Judged|SectionLaws|JudgedLaws|CourseLaws|FitLaws)\b' "$@"; }
+# what reads bytes, cited or called in these folders
+bytes_seen() {
+    grep -rnP 'Rattle·(file\.specs\.(?!Format\.|declared\.format\.Format\.)|numbers\.|dimensions\.specs\.(?!Dimensions\.)|survey\.specs\.(Tests|Passed)\.)' "$@"
+    grep -rnE '^use (file|numbers|dimensions)::' "$@"
+}
 
 rooms=$(grep -c '^[a-z_]*:' crates.txt)
 files=$(find crates -name '*.rt' -o -name '*.antt' | wc -l)
 found=$(differing docs/ARCHITECTURE.md)
 [ -z "$found" ] || fail "docs/ARCHITECTURE.md and crates.txt differ in: $found"
-found=$(bytes_seen crates)
-[ -z "$found" ] || fail "bytes seen above survey and rewrite: $found"
+# shellcheck disable=SC2046
+found=$(bytes_seen $(ls -d crates/* | grep -vxE 'crates/(file|numbers|dimensions|survey|fault|rewrite)'))
+[ -z "$found" ] || fail "bytes seen above the file's rooms: $found"
 
 # the rules can be broken
 sample=$(mktemp -d)
 sed 's/^| `arith` .*/| `arith` | x | laws, measure |/' docs/ARCHITECTURE.md >"$sample/page.md"
 [ "$(differing "$sample/page.md")" = arith ] || fail "a wrong 'knows' column is not found"
-echo 'use Rattle.survey.specs.Word.{word}' >"$sample/above.antt"
-[ -n "$(bytes_seen "$sample")" ] || fail "a cited word is not found"
+seen() {
+    echo "$1" >"$sample/above.rt"
+    [ -n "$(bytes_seen "$sample")" ]
+}
+for line in 'use Rattle.file.specs.Word.{word}' 'use Rattle.numbers.specs.Item.{itemFrom}' 'use Rattle.dimensions.specs.Tests.{dimensionTests}' \
+    'use Rattle.survey.specs.Tests.{fileTests}' 'use file::word::word;' 'use numbers::item::item_from;'; do
+    seen "$line" || fail "not found: $line"
+done
+seen 'use Rattle.file.specs.Format.{today}' && fail "a format is taken for a byte"
 rm -r "$sample"
 
 echo "$rooms rooms and $files files looked at"
