@@ -34,7 +34,11 @@ impl Comparison<'_> {
     pub fn new<'a>(program: &'a Path, folder: &'a Path) -> Comparison<'a> {
         Comparison {
             program,
-            runs: Runs::new(folder),
+            runs: Runs::new(
+                folder,
+                "given-old.survey",
+                Box::new(|line| println!("{line}")),
+            ),
             refusals: Seen::new([1, 2, 3, 4, 5, 6, 7, 9, 14]),
             conversions: Tally::default(),
             sentences: Sentences::new(SENTENCES),

@@ -9,6 +9,10 @@
 //! law on mirrored rows, or if a refusal, a sentence, a miss of the course lengths, an
 //! edge of spherical caps, of seams or of conversions, an exact half, a row below zero
 //! or a difference of mirrored rows that can occur was seen too seldom.
+//!
+//! What `tanktable` and `tanklookup` write takes about as long to compare as all the
+//! rest, so that has a thread of its own. It prints nothing: what it finds is printed
+//! after the rest, and a run prints the same every time.
 
 mod conversions;
 mod lookups;
@@ -19,7 +23,10 @@ mod surveys;
 mod turned;
 
 use printed::{Comparison, Programs};
-use std::path::PathBuf;
+use std::panic::resume_unwind;
+use std::path::{Path, PathBuf};
+use std::sync::mpsc;
+use std::thread;
 
 /// How many cases there are of each seed.
 const SURVEYS: u64 = 5_000;
@@ -51,10 +58,37 @@ fn main() {
         lookup: &lookup,
     };
 
+    std::fs::create_dir_all(&folder).expect("the folder for surveys can be made");
+    let (sender, told) = mpsc::channel();
+    let tell = Box::new(move |line| sender.send(line).expect("what is told is printed"));
+    let mut printed = Comparison::new(programs, &folder, tell);
+
+    let (mismatches, often_enough) = thread::scope(|scope| {
+        let beside = scope.spawn(|| printed.compare(PRINTED_SEED, PRINTED, PRINTED_ACCEPTED));
+        let (mismatches, often_enough) = all_but_printed(&convert, &folder);
+        // What it found before a panic is printed too.
+        let ended = beside.join();
+        told.try_iter().for_each(|line: String| println!("{line}"));
+        let of_printed = ended.unwrap_or_else(|panic| resume_unwind(panic));
+        (mismatches + of_printed, often_enough)
+    });
+    let often_enough = printed.print() && often_enough;
+    // A folder that holds surveys on which the two differ stays.
+    let _ = std::fs::remove_dir(&folder);
+
+    println!("mismatches: {mismatches}");
+    if mismatches != 0 || !often_enough {
+        std::process::exit(1);
+    }
+}
+
+/// Compares surveys, lookups and conversions. Returns how many differ, and whether all
+/// that can occur was seen often enough.
+fn all_but_printed(convert: &Path, folder: &Path) -> (u64, bool) {
     let mut mismatches = 0;
     let mut tried = surveys::Tried::new();
     for seed in SURVEY_SEEDS {
-        mismatches += surveys::compare(seed, SURVEYS, &folder, &mut tried);
+        mismatches += surveys::compare(seed, SURVEYS, folder, &mut tried);
     }
     let mut often_enough = tried.print();
 
@@ -64,19 +98,11 @@ fn main() {
     }
     often_enough &= tried.print();
 
-    let mut conversions = conversions::Comparison::new(&convert, &folder);
+    let mut conversions = conversions::Comparison::new(convert, folder);
     for seed in OLD_SEEDS {
         conversions.compare(seed, OLD, OLD_ACCEPTED);
     }
     mismatches += conversions.mismatches();
     often_enough &= conversions.print();
-
-    let mut printed = Comparison::new(programs, &folder);
-    mismatches += printed.compare(PRINTED_SEED, PRINTED, PRINTED_ACCEPTED);
-    often_enough &= printed.print();
-
-    println!("mismatches: {mismatches}");
-    if mismatches != 0 || !often_enough {
-        std::process::exit(1);
-    }
+    (mismatches, often_enough)
 }

@@ -1,7 +1,7 @@
 //! What `tanktable` and `tanklookup` print, byte by byte: standard output and
 //! standard error.
 
-use crate::run::Runs;
+use crate::run::{Runs, Tell};
 use crate::seen::{Seen, Sentences};
 use crate::surveys::keep;
 use reference::generate::case;
@@ -34,10 +34,10 @@ pub struct Comparison<'a> {
 impl Comparison<'_> {
     /// Refusal 8 is not among those that can occur: the programs have room
     /// enough for every table.
-    pub fn new<'a>(programs: Programs<'a>, folder: &'a Path) -> Comparison<'a> {
+    pub fn new<'a>(programs: Programs<'a>, folder: &'a Path, tell: Tell) -> Comparison<'a> {
         Comparison {
             programs,
-            runs: Runs::new(folder),
+            runs: Runs::new(folder, "given.survey", tell),
             surveys: Seen::new([1, 2, 3, 4, 5, 6, 7, 9, 14]),
             lookups: Seen::new([12, 13]),
             sentences: Sentences::new(SENTENCES),
@@ -61,7 +61,7 @@ impl Comparison<'_> {
             let before = self.runs.mismatches();
             self.survey(&survey, &opened, &mut Random::for_case(seed, number));
             if self.runs.mismatches() > before {
-                println!("  of the survey with seed {seed}, number {number}");
+                (self.runs.tell)(format!("  of the survey with seed {seed}, number {number}"));
                 let name = format!("printed-{seed}-{number}");
                 keep(self.runs.folder, &name, &survey);
             }

@@ -8,22 +8,28 @@ use std::io::{ErrorKind, Write};
 use std::path::Path;
 use std::process::{Command, Stdio};
 
-/// The name of the file in which a survey is given to a program.
-const GIVEN: &str = "given.survey";
+/// Takes a line on what differs.
+pub type Tell = Box<dyn Fn(String) + Send>;
 
 /// The runs so far.
 pub struct Runs<'a> {
     /// For the survey that is given by `-f`, and those that differ.
     pub folder: &'a Path,
+    /// The name of the file in which a survey is given. Runs beside each other have
+    /// different ones.
+    given: &'a str,
+    pub tell: Tell,
     count: u64,
     mismatches: u64,
 }
 
 impl Runs<'_> {
     /// None yet.
-    pub fn new(folder: &Path) -> Runs<'_> {
+    pub fn new<'a>(folder: &'a Path, given: &'a str, tell: Tell) -> Runs<'a> {
         Runs {
             folder,
+            given,
+            tell,
             count: 0,
             mismatches: 0,
         }
@@ -40,7 +46,7 @@ impl Runs<'_> {
 
     /// Makes a survey ready for the runs that follow.
     pub fn give(&self, survey: &[u8]) {
-        keep(self.folder, GIVEN, survey);
+        keep(self.folder, self.given, survey);
     }
 
     /// One run, with the survey that was given in its file or on standard input.
@@ -54,7 +60,7 @@ impl Runs<'_> {
     ) {
         let mut command = Command::new(program);
         let input = if random.one_in(2) {
-            command.arg("-f").arg(self.folder.join(GIVEN));
+            command.arg("-f").arg(self.folder.join(self.given));
             &[]
         } else {
             survey
@@ -64,17 +70,17 @@ impl Runs<'_> {
         self.count += 1;
         if ours != reference {
             self.mismatches += 1;
-            println!("MISMATCH: written by {command:?}");
-            report("output", &ours.output, &reference.output);
-            report("error", ours.error.as_bytes(), reference.error.as_bytes());
+            let output = difference("output", &ours.output, &reference.output);
+            let error = difference("error", ours.error.as_bytes(), reference.error.as_bytes());
+            (self.tell)(format!("MISMATCH: written by {command:?}"));
+            output.into_iter().chain(error).for_each(&self.tell);
         }
     }
 
-    /// Takes the given survey away. A folder that holds surveys on which the two
-    /// differ stays.
+    /// Takes the given survey away.
     pub fn end(&self) {
-        std::fs::remove_file(self.folder.join(GIVEN)).expect("the given survey can be removed");
-        let _ = std::fs::remove_dir(self.folder);
+        let given = self.folder.join(self.given);
+        std::fs::remove_file(given).expect("the given survey can be removed");
     }
 }
 
@@ -104,34 +110,36 @@ fn written(command: &mut Command, input: &[u8]) -> Written {
     }
 }
 
-/// Prints where two streams first differ, if they do: at a line of text, or at a
-/// byte.
-fn report(stream: &str, ours: &[u8], reference: &[u8]) {
+/// Where two streams first differ, if they do: at a line of text, or at a byte.
+fn difference(stream: &str, ours: &[u8], reference: &[u8]) -> Option<String> {
     if ours == reference {
-        return;
+        return None;
     }
-    if let (Ok(ours), Ok(reference)) = (std::str::from_utf8(ours), std::str::from_utf8(reference)) {
-        report_line(stream, ours, reference);
+    let texts = (std::str::from_utf8(ours), std::str::from_utf8(reference));
+    let at = if let (Ok(ours), Ok(reference)) = texts {
+        different_line(ours, reference)
     } else {
         let same = ours.iter().zip(reference).take_while(|(a, b)| a == b);
-        println!(
-            "  standard {stream}, from byte {} on: ours of {} bytes, reference of {}",
+        format!(
+            "from byte {} on: ours of {} bytes, reference of {}",
             same.count(),
             ours.len(),
             reference.len()
-        );
-    }
+        )
+    };
+    Some(format!("  standard {stream}, {at}"))
 }
 
-/// Prints the first line at which two texts differ.
-fn report_line(stream: &str, ours: &str, reference: &str) {
+/// The first line at which two texts differ, and they do.
+fn different_line(ours: &str, reference: &str) -> String {
     let mut our_lines = ours.split('\n');
     let mut their_lines = reference.split('\n');
-    for line in 1.. {
+    let mut line = 1;
+    loop {
         let (our, their) = (our_lines.next(), their_lines.next());
         if our != their || our.is_none() {
-            println!("  standard {stream}, line {line}: ours {our:?}, reference {their:?}");
-            return;
+            return format!("line {line}: ours {our:?}, reference {their:?}");
         }
+        line += 1;
     }
 }

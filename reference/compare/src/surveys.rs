@@ -136,7 +136,6 @@ pub fn compare(seed: u64, cases: u64, folder: &Path, tried: &mut Tried) -> u64 {
 
 /// Writes a survey to a file of the folder.
 pub fn keep(folder: &Path, name: &str, survey: &[u8]) {
-    std::fs::create_dir_all(folder).expect("the folder for surveys can be made");
     std::fs::write(folder.join(name), survey).expect("a survey can be written");
 }
 
