@@ -19,7 +19,7 @@ differing() {
 
 # what reads bytes, cited or called in these folders
 bytes_seen() {
-    grep -rnP 'Rattle·(file\.specs\.(?!Format\.|declared\.format\.Format\.)|numbers\.|dimensions\.specs\.(?!Dimensions\.)|survey\.specs\.(Tests|Passed)\.)' "$@"
+    grep -rnP 'Rattle·(file\.specs\.(?!Format\.|declared\.format\.Format\.)|numbers\.|dimensions\.specs\.(?!Dimensions\.)|survey\.specs\.Tests\.)' "$@"
     grep -rnE '^use (file|numbers|dimensions)::' "$@"
 }
 

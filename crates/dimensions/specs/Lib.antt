@@ -6,5 +6,4 @@ pub mod Tests
 pub mod Judged
 pub mod JudgedLaws
 pub mod SumLaws
-pub mod DiameterLaws
 pub mod WallLaws

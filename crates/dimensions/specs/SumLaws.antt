@@ -1,21 +1,23 @@
--- How large the sums over courses within their limits can be. Assumes nothing.
-use Prim.Native.Nat.{ℕ, zero, suc, _+_, _*_, _≤_}
+-- How large the sums over courses within their limits can be, and D1 and D2, which are no more than what they are made of. Assumes nothing.
+use Prim.Native.Nat.{ℕ, zero, suc, _+_, _*_, _^_, _≤_, _<_}
 use mathlib.Core.Path.{_≡_}
 use mathlib.Core.List.{List}
-use native.Mathlib.Nat.{le-refl, mul-le-mul}
+use native.Mathlib.Nat.{le-refl, mul-le-mul, mul-le-mul-left}
 use native.Mathlib.Omega.{arith}
+use Rattle.laws.specs.NearestLaws.{nearest-at-most}
+use Rattle.measure.specs.Pi.{piOver, piUnder}
 use Rattle.tank.specs.Limits.{longestShell}
 use Rattle.file.specs.declared.format.Format.{Format}
 use Rattle.file.specs.Word.{word}
-use Rattle.file.specs.Layout.{firstIn, secondIn}
+use Rattle.file.specs.Layout.{leftAt, rightAt, firstIn, secondIn}
 use Rattle.file.specs.Limits.{mostCourses}
 use Rattle.file.specs.Section.{courses, recordAt}
 use Rattle.numbers.specs.Limits.{longestCircumference, thickest}
 use Rattle.numbers.specs.Reading.{riseOf, corrected}
 use Rattle.numbers.specs.CourseLaws.{CourseFits, CoursesFit}
-use Rattle.numbers.specs.FitLaws.{NumbersFit, courses-fit}
+use Rattle.numbers.specs.FitLaws.{NumbersFit, as-they-stand, ends-fit, courses-fit}
 use Rattle.dimensions.specs.declared.dimensions.Sums.{Sums}
-use Rattle.dimensions.specs.Dimensions.{sumOf, sumsOver, sumsOf}
+use Rattle.dimensions.specs.Dimensions.{sumOf, sumsOver, sumsOf, outerDiameter, shellDiameter, headDiameter, d1, d2}
 
 -- the largest that a course adds
 abbrev pub mostReading : ℕ
@@ -83,3 +85,19 @@ module _ (f : Format) (s : List ℕ) (fit : NumbersFit f s) where
     omega (arith, file-sums .some, fit .placed .someCourse),
     omega (arith, file-sums .count, fit .placed .someCourse),
   )
+
+outer-at-most : (readings lengths : ℕ) → 1 ≤ lengths → outerDiameter readings lengths ≤ piUnder * readings
+unfolding outerDiameter
+outer-at-most readings lengths some =
+    let dividend = piUnder * readings in
+    let divisor : 1 ≤ 2 * piOver * lengths = omega arith in
+    nearest-at-most dividend dividend (2 * piOver * lengths) divisor (omega (arith, mul-le-mul-left dividend divisor))
+
+pub diameters-small : (f : Format) (s : List ℕ) → NumbersFit f s → (d1 f s < 2 ^ 63) × (d2 f s < 2 ^ 32)
+unfolding shellDiameter headDiameter
+diameters-small f s fit =
+    let sums = file-sums-fit f s fit in
+    let ends = word s leftAt + word s rightAt in (
+      omega (arith, sums .0 .readings, outer-at-most (sumsOf f s .readings) (sumsOf f s .lengths) (sums .1)),
+      omega (arith, ends-fit f s (as-they-stand f s fit), outer-at-most ends 1 (omega arith)),
+    )

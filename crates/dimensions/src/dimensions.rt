@@ -14,8 +14,6 @@ ghost use Rattle.numbers.specs.CourseLaws.{CourseFits};
 ghost use Rattle.numbers.specs.FitLaws.{NumbersFit};
 ghost use Rattle.dimensions.specs.Dimensions.{sumOf, added, sumsOf, allowance, lengthsFit, outerDiameter, wall, shellDiameter, headDiameter, diameterFits, dimensions, headsTested};
 ghost use Rattle.dimensions.specs.SumLaws.{SumsSmall};
-use crate::limits::COURSE_ALLOWANCE;
-use crate::limits::FARTHEST;
 use arith::less::less;
 use arith::nearest::nearest_quotient;
 use file::format::Format;
@@ -33,6 +31,12 @@ use numbers::reading::corrected_at;
 use numbers::reading::rise_of;
 use refusal::Refusal;
 use refusal::limits::is_near;
+
+// How far the course lengths together may lie from L1, for each course.
+const COURSE_ALLOWANCE: u64 = 100;
+
+// How far a diameter may lie from DH.
+const FARTHEST: u64 = 10_000;
 
 // What the dimensions are made of, summed over courses.
 pub struct Sums {

@@ -29,7 +29,7 @@ use Rattle.file.specs.Section.{courses, deadwood, seams, sections, seamItems, e
 use Rattle.numbers.specs.Limits.{shortestCircumference, longestCircumference, shortestShell, shortestCourse, thinnest, thickest}
 use Rattle.numbers.specs.Reading.{riseOf, corrected}
 use Rattle.dimensions.specs.Dimensions.{sumsOf, allowance, d1, d2, diameterFits}
-use Rattle.survey.specs.Passed.{limitsPass, numbersPass}
+use Rattle.survey.specs.Tests.{limitsPass, numbersPass}
 use Rattle.fault.specs.declared.fault.Fault.{Fault}
 use Rattle.fault.specs.declared.field.Limits.{Limits}
 use Rattle.fault.specs.Sentence.{ofCourses, ofDeadwood, ofSeams, ofSize, ofLargeFile, ofOverlap, ofSeamsOverCourses, ofSeamsOverDeadwood, ofCorrected}

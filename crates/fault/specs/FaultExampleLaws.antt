@@ -19,9 +19,8 @@ use Rattle.numbers.specs.Reading.{riseOf}
 use Rattle.numbers.specs.Tests.{headerTests, courseTests, itemTests, seamTests, readingTests}
 use Rattle.dimensions.specs.Dimensions.{sumOf, sumsOver, lengthsFit, outerDiameter, wall, shellDiameter, headDiameter, diameterFits}
 use Rattle.dimensions.specs.Tests.{dimensionTests}
-use Rattle.survey.specs.Tests.{fileTests}
+use Rattle.survey.specs.Tests.{fileTests, limitsPass, numbersPass}
 use Rattle.survey.specs.Survey.{decoded}
-use Rattle.survey.specs.Passed.{limitsPass, numbersPass}
 use Rattle.fault.specs.declared.fault.Fault.{Fault}
 use Rattle.fault.specs.Fault.{faultWith, unknown, sizeFault, headerLimits, headerFault, countFault, placeFault, courseFault, volumeFault, itemFault}
 use Rattle.fault.specs.Fault.{seamFault, fieldFault, limitFault, readingFault, numberFault, lengthsFault, diameterFault, headLengthFault, dimensionFault, headedFault, faultAs, faultOf}

@@ -11,13 +11,15 @@ use lib.Dec.{leb, ltb, eqb}
 use lib.IntN.{natAbs}
 use lib.ListN.{length}
 use Rattle.laws.specs.BoolLaws.{by-test, both-pass}
+use Rattle.laws.specs.OrderLaws.{same-order}
 use Rattle.refusal.specs.declared.Verdict.the-variants.{Passed}
 use Rattle.refusal.specs.Test.{test, verdict, within}
-use Rattle.refusal.specs.TestLaws.{passed-pick, passed-append}
+use Rattle.refusal.specs.TestLaws.{passed-pick, passed-append, near-within}
 use Rattle.deadwood.specs.Item.{mostItems}
 use Rattle.heads.specs.declared.kind.HeadKind.{HeadKind}
+use Rattle.heads.specs.declared.kind.HeadKind.the-variants.{SphericalCap}
 use Rattle.heads.specs.Kind.{kindKnown, kindOf}
-use Rattle.heads.specs.Length.{lengthFits}
+use Rattle.heads.specs.Length.{longest, lengthFits, fitsDiameter}
 use Rattle.file.specs.declared.format.Format.{Format}
 use Rattle.file.specs.declared.section.Section.{Section}
 use Rattle.file.specs.declared.section.Records.{Records}
@@ -33,11 +35,13 @@ use Rattle.file.specs.Tests.{apartTests, placeTests}
 use Rattle.numbers.specs.Limits.{shortestCircumference, longestCircumference}
 use Rattle.numbers.specs.Reading.{riseOf, corrected}
 use Rattle.numbers.specs.Tests.{headerTests, courseTests, readingTests}
-use Rattle.survey.specs.Passed.{limitsPass}
+use Rattle.numbers.specs.FitLaws.{LimitsFit, head-length-fits}
+use Rattle.dimensions.specs.Dimensions.{sumsOf, allowance, lengthsFit, d2}
+use Rattle.survey.specs.Tests.{limitsPass}
 use Rattle.fault.specs.declared.fault.Fault.{Fault}
 use Rattle.fault.specs.Sentence.{ofCourses, ofDeadwood, ofSeams, ofCorrected}
 use Rattle.fault.specs.Fault.{faultWith, lengthLimits, headerLimits, courseLimits, limitsAt, headerFault, courseFault, volumeFault, itemFault, seamFault, recordFault}
-use Rattle.fault.specs.Fault.{holds, startsWord, fieldFault, sectionsFault, limitFault, readingFault, numberFault, headedFault, faultAs}
+use Rattle.fault.specs.Fault.{holds, startsWord, fieldFault, sectionsFault, limitFault, readingFault, numberFault, lengthsFault, headLengthFault, headedFault, faultAs}
 
 -- a format's last word ends inside its header
 pub words-end : (f : Format) → Readable f → (headerEnd ≤ wordsEnd f) × (wordsEnd f ≤ f .header)
@@ -280,3 +284,19 @@ module _ (f : Format) (s : List ℕ) (readable : Readable f) (header : f .header
       readingTests s at (riseOf f s i) ≡ map (λ k. test 5 (at + k) (namedWithin (at + k))) (firstIn ∷ secondIn ∷ [])
   unfolding readingTests
   reading-limits-are-tested = rw (every-corrected-reading-named 0 (omega arith), every-corrected-reading-named 1 (omega arith))
+
+-- of refusals 6 and 14
+
+pub lengths-limits-are-tested : (f : Format) (s : List ℕ)
+    → let r = lengthsFault f s in lengthsFit (sumsOf f s) (word s l1At) ≡ within (natAbs (r .low)) (natAbs (r .value)) (natAbs (r .high))
+unfolding lengthsFit lengthsFault
+lengths-limits-are-tested f s = let t = sumsOf f s in near-within (t .lengths) (word s l1At) (allowance t)
+
+pub head-length-limits-are-tested : (f : Format) (s : List ℕ) → LimitsFit f s → kindOf (word s kindAt) ≡ SphericalCap
+    → let r = headLengthFault f s in
+    fitsDiameter SphericalCap (d2 f s) (word s l3At) ≡ within (natAbs (r .low)) (natAbs (r .value)) (natAbs (r .high))
+unfolding lengthFits headLengthFault
+head-length-limits-are-tested f s fit cap =
+    let l = word s l3At in
+    let some = both-pass (leb 1 l) (leb l longest) (rw cap at (head-length-fits f s fit)) .0 in
+    rw some (same-order (2 * l) (d2 f s) l (d2 f s / 2) (λ k. omega arith) (λ k. omega arith))

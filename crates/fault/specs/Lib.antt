@@ -3,5 +3,4 @@ pub mod Sentence
 pub mod Fault
 pub mod FaultLaws
 pub mod NamedLaws
-pub mod NamedLimitLaws
 pub mod FaultExampleLaws

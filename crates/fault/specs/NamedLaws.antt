@@ -31,8 +31,7 @@ use Rattle.numbers.specs.Tests.{headerTests, limitTests, correctedTests, number
 use Rattle.numbers.specs.Tests.{courseTests, itemTests, seamTests, readingTests, recordTests, sectionTests, sectionsTests}
 use Rattle.dimensions.specs.Dimensions.{d1, diameterFits}
 use Rattle.dimensions.specs.Tests.{dimensionTests}
-use Rattle.survey.specs.Tests.{fileTests}
-use Rattle.survey.specs.Passed.{passed, limitsPass, numbersPass}
+use Rattle.survey.specs.Tests.{fileTests, passed, limitsPass, numbersPass}
 use Rattle.survey.specs.Survey.{decoded}
 use Rattle.survey.specs.NumberedLaws.{decoded-verdict}
 use Rattle.fault.specs.declared.fault.Fault.{Fault}

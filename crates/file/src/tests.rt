@@ -14,8 +14,6 @@ ghost use Rattle.file.specs.SectionLaws.{Small};
 ghost use Rattle.file.specs.Tests.{countTests, placeTests, layoutTests};
 use crate::format::Format;
 use crate::layout;
-use crate::limits::LARGEST_FILE;
-use crate::limits::MOST_COURSES;
 use crate::section::Section;
 use crate::section::are_apart;
 use crate::section::count_fits;
@@ -31,6 +29,11 @@ use refusal::Verdict;
 use refusal::first_refusal;
 use refusal::limits::is_within;
 use refusal::next_test;
+
+// A file's size in bytes.
+pub const LARGEST_FILE: usize = 65_536;
+
+pub const MOST_COURSES: usize = 40;
 
 // Refusal 1 is not given: the file has its header, and is none too large.
 pub fn size_fits(f: Format, s: &[u8]) -> bool

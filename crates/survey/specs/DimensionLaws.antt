@@ -21,9 +21,8 @@ use Rattle.file.specs.SectionLaws.{placed-file}
 use Rattle.numbers.specs.Tests.{limitTests, correctedTests, numberTests}
 use Rattle.numbers.specs.FitLaws.{LimitsFit, NumbersFit}
 use Rattle.dimensions.specs.Tests.{dimensionTests}
-use Rattle.survey.specs.Tests.{fileTests}
+use Rattle.survey.specs.Tests.{fileTests, passed, limitsPass, numbersPass}
 use Rattle.survey.specs.Survey.{decoded}
-use Rattle.survey.specs.Passed.{passed, limitsPass, numbersPass}
 use Rattle.survey.specs.NumberedLaws.{decoded-verdict}
 
 pub passed-verdict : (v : Verdict) → passed v ≡ true → v ≡ Passed

@@ -21,7 +21,7 @@ use Rattle.file.specs.Format.{today}
 use Rattle.dimensions.specs.Dimensions.{sumsOf, lengthsFit, d1, d2, diametersFit}
 use Rattle.dimensions.specs.Tests.{dimensionTests}
 use Rattle.survey.specs.Survey.{decoded}
-use Rattle.survey.specs.Passed.{numbersPass}
+use Rattle.survey.specs.Tests.{numbersPass}
 use Rattle.survey.specs.DimensionLaws.{kind-known, decoded-by-dimensions}
 
 -- by the number of the kind: no other kind is too long for D2

@@ -26,7 +26,7 @@ use Rattle.dimensions.specs.Dimensions.{sumsOf, allowance, lengthsFit, d1, d2, 
 use Rattle.dimensions.specs.Tests.{dimensionTests}
 use Rattle.dimensions.specs.SumLaws.{file-sums}
 use Rattle.survey.specs.Survey.{decoded}
-use Rattle.survey.specs.Passed.{numbersPass}
+use Rattle.survey.specs.Tests.{numbersPass}
 use Rattle.survey.specs.DimensionLaws.{numbers-pass, decoded-by-dimensions}
 
 -- by how much the sum of the course lengths misses L1, whichever is the larger

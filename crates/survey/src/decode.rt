@@ -19,9 +19,9 @@ use deadwood::item::MOST_ITEMS;
 use dimensions::dimensions::Dimensions;
 use file::format::Format;
 use file::layout;
-use file::limits;
 use file::section::deadwood;
 use file::section::record_at;
+use file::tests;
 use file::word::word;
 use heads::kind::HeadKind;
 use measure::diameter::Diameter;
@@ -31,7 +31,7 @@ use refusal::Verdict;
 use tank::tank::Tank;
 
 // The size in bytes past which every file is refused: what a caller reads of one.
-pub const LARGEST_FILE: usize = limits::LARGEST_FILE;
+pub const LARGEST_FILE: usize = tests::LARGEST_FILE;
 
 // All that a table is made of. Behind the deadwood items stand items that take nothing.
 pub struct Survey {

@@ -10,7 +10,7 @@ use Rattle.file.specs.Word.{word}
 use Rattle.file.specs.Layout.{dhAt}
 use Rattle.dimensions.specs.Dimensions.{shellDiameter, d1, d2, diameterFits}
 use Rattle.dimensions.specs.JudgedLaws.{told-outside, told-within}
-use Rattle.dimensions.specs.DiameterLaws.{diameters-small}
+use Rattle.dimensions.specs.SumLaws.{diameters-small}
 use Rattle.fault.specs.Sentence.{ofShellDiameter, ofHeadDiameter}
 use Rattle.fault.specs.Fault.{faultWith, diameterFault}
 use borrow.Author.Needs.{needs}

@@ -4,7 +4,7 @@ use mathlib.Core.Path.{_≡_, sym, _∙_}
 use borrow.Author.Tests.{eq-eqb, ne-eqb, not-true, not-false}
 use Rattle.file.specs.FormatLaws.{Readable}
 use Rattle.numbers.specs.FitLaws.{NumbersFit}
-use Rattle.survey.specs.Passed.{numbersPass}
+use Rattle.survey.specs.Tests.{numbersPass}
 use Rattle.survey.specs.DimensionLaws.{numbers-pass}
 use Rattle.fault.specs.Fault.{dimensionFault}
 use borrow.Author.Needs.{needs}

@@ -3,7 +3,7 @@ use Prim.Native.Nat.{_^_, _<_}
 use mathlib.Core.Path.{_≡_}
 use native.Mathlib.Omega.{arith}
 use Rattle.dimensions.specs.Dimensions.{d2}
-use Rattle.dimensions.specs.DiameterLaws.{diameters-small}
+use Rattle.dimensions.specs.SumLaws.{diameters-small}
 use Rattle.fault.specs.Fault.{headLengthFault}
 use borrow.Author.Needs.{needs}
 use Rattle.fault.proofs.fault.head_length_fault.Statement.{statement}

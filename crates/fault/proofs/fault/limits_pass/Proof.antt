@@ -7,7 +7,7 @@ use Rattle.refusal.specs.Test.{verdict, within}
 use Rattle.file.specs.Limits.{largestFile}
 use Rattle.file.specs.SectionLaws.{placed-file}
 use Rattle.file.specs.Tests.{layoutTests}
-use Rattle.survey.specs.Passed.{passed, limitsPass}
+use Rattle.survey.specs.Tests.{passed, limitsPass}
 use Rattle.survey.specs.DimensionLaws.{passed-verdict}
 use borrow.Author.Needs.{needs}
 use Rattle.fault.proofs.fault.limits_pass.Statement.{statement}

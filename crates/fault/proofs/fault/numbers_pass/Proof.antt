@@ -1,7 +1,7 @@
 -- `fault::fault::numbers_pass` meets its contract: a file whose numbers are within their limits is left to its corrected readings. Assumes nothing.
 use mathlib.Core.Path.{sym, _∙_, ap}
 use borrow.Author.Tests.{not-true, not-false}
-use Rattle.survey.specs.Passed.{passed, numbersPass}
+use Rattle.survey.specs.Tests.{passed, numbersPass}
 use Rattle.survey.specs.DimensionLaws.{limits-pass}
 use borrow.Author.Needs.{needs}
 use Rattle.fault.proofs.fault.numbers_pass.Statement.{statement}
