@@ -3,32 +3,14 @@
 # must-fail edits are, with one line more, `error:`, the compiler's first complaint. `rt must-fail` takes only edits that the compiler lets
 # through to the prover. Says what it tried; an edit that compiles, and one that is refused for another reason, are seen to be found.
 . "$(dirname "$0")/failures.sh"
+. tests/edit.sh
 room=target/must-not-compile
-
-# Applies an edit to the copy of a crate; its `old:` text stands there once.
-apply() {
-    local line file old text rest
-    while IFS= read -r line; do
-        case $line in
-        'file: '*) file=$room/crates/$1/${line#file: } ;;
-        'old: '*) old=${line#old: } ;;
-        'new: '*)
-            text=$(<"$file")
-            rest=${text#*"$old"}
-            [ "$rest" != "$text" ] && [ "${rest#*"$old"}" = "$rest" ] || return 1
-            printf '%s\n' "${text%%"$old"*}${line#new: }$rest" >"$file"
-            ;;
-        esac
-    done <"$2"
-}
 
 # What the compiler says of a crate with an edit: 'refused' if it is the edit's own error.
 verdict() {
     local expected first
     expected=$(sed -n 's/^error: //p' "$2")
-    rm -rf "$room/crates/$1/src"
-    cp -r "crates/$1/src" "$room/crates/$1/src"
-    apply "$1" "$2" || { echo "its 'old:' text does not stand in the file once"; return; }
+    edited "crates/$1" "$room/crates/$1" "$2" || { echo "its 'old:' text does not stand in the file once"; return; }
     if (cd "$room" && rt mir "$1") >/dev/null 2>"$room/said"; then
         echo "it compiles"
         return
