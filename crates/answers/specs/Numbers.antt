@@ -17,11 +17,11 @@ use Rattle.lookup.specs.declared.height.HeightAnswer.{HeightAnswer}
 use Rattle.lookup.specs.declared.height.HeightAnswer.the-variants as height
 use Rattle.text.specs.Put.{overwritten}
 use Rattle.wording.specs.Sentences.{faultSize, faultWords}
-use Rattle.capi.specs.declared.numbers.TableNumbers.{TableNumbers}
-use Rattle.capi.specs.declared.numbers.LitresNumbers.{LitresNumbers}
-use Rattle.capi.specs.declared.numbers.HeightNumbers.{HeightNumbers}
-use Rattle.capi.specs.declared.numbers.ConvertedNumbers.{ConvertedNumbers}
-use Rattle.capi.specs.declared.numbers.Words.{Words}
+use Rattle.answers.specs.declared.numbers.TableNumbers.{TableNumbers}
+use Rattle.answers.specs.declared.numbers.LitresNumbers.{LitresNumbers}
+use Rattle.answers.specs.declared.numbers.HeightNumbers.{HeightNumbers}
+use Rattle.answers.specs.declared.numbers.ConvertedNumbers.{ConvertedNumbers}
+use Rattle.answers.specs.declared.words.Words.{Words}
 
 abbrev pub tableNumbers : Made → TableNumbers
 tableNumbers (made.Table d1 d2 rows) = record { refusal = 0; place = 0; d1 = diameterUnits d1; d2 = diameterUnits d2; rows = rows }

@@ -13,9 +13,9 @@ use Rattle.survey.specs.declared.decode.Survey.{Survey}
 use Rattle.table.specs.Answer.{verdictOn, made, tableLeft}
 use Rattle.lookup.specs.Litres.{OnTable}
 use Rattle.lookup.specs.Height.{Lowest}
-use Rattle.capi.specs.declared.numbers.LitresNumbers.{LitresNumbers}
-use Rattle.capi.specs.declared.numbers.HeightNumbers.{HeightNumbers}
-use Rattle.capi.specs.declared.numbers.ConvertedNumbers.{ConvertedNumbers}
+use Rattle.answers.specs.declared.numbers.LitresNumbers.{LitresNumbers}
+use Rattle.answers.specs.declared.numbers.HeightNumbers.{HeightNumbers}
+use Rattle.answers.specs.declared.numbers.ConvertedNumbers.{ConvertedNumbers}
 
 abbrev pub EveryCounted : (Survey → List ℕ → ℕ → Type 0) → Survey → ℕ → List ℕ → Type 0
 EveryCounted claim v rows table = (i : ℕ) → i < rows → claim v table i

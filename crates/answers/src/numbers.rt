@@ -3,7 +3,7 @@
 ghost use mathlib.Core.Path.{_≡_};
 ghost use Prim.Native.Nat.{_≤_};
 ghost use Rattle.rewrite.specs.Rewritten.{mostBytes};
-ghost use Rattle.capi.specs.Numbers.{tableNumbers, litresNumbers, heightNumbers, convertedNumbers};
+ghost use Rattle.answers.specs.Numbers.{tableNumbers, litresNumbers, heightNumbers, convertedNumbers};
 use convert::Converted;
 use lookup::height::HeightAnswer;
 use lookup::litres::LitresAnswer;
@@ -41,13 +41,6 @@ pub struct ConvertedNumbers {
     pub place: u32,
     pub length: u32,
     pub file: [u8; MOST_BYTES],
-}
-
-// The words of a refusal: the first `length` bytes of the text; behind them it is 0, and at least one byte is.
-#[repr(C)]
-pub struct Words {
-    pub length: u32,
-    pub text: [u8; 256],
 }
 
 pub fn table_numbers(answer: Made) -> TableNumbers

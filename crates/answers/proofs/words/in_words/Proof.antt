@@ -1,4 +1,4 @@
--- `capi::in_words` meets its contract: the words fit, so all of them stand at the front of the text. Assumes nothing.
+-- `answers::words::in_words` meets its contract: the words fit, so all of them stand at the front of the text. Assumes nothing.
 use Prim.Native.Nat.{ℕ}
 use mathlib.Core.Path.{_≡_, ap₂}
 use mathlib.Core.List.{List}
@@ -6,9 +6,9 @@ use native.Mathlib.Omega.{arith}
 use borrow.Author.Needs.{needs}
 use lib.ListN.{length, length-replicate}
 use Rattle.wording.specs.Sentences.{faultSize, faultWords}
-use Rattle.capi.specs.declared.numbers.Words.{Words}
-use Rattle.capi.proofs.in_words.Statement.{statement}
-use Rattle.capi.proofs.in_words.Tie as tie
+use Rattle.answers.specs.declared.words.Words.{Words}
+use Rattle.answers.proofs.words.in_words.Statement.{statement}
+use Rattle.answers.proofs.words.in_words.Tie as tie
 
 abbrev words : ℕ → List ℕ → Words
 words n t = record { length = n; text = t }

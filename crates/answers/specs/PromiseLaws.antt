@@ -18,11 +18,11 @@ use Rattle.lookup.specs.Litres.{litres}
 use Rattle.lookup.specs.Height.{heightFor}
 use Rattle.lookup.specs.Answer.{litresBy, litresAnswer, ReadOff, TooHigh, heightBy, heightAnswer, Reached, TooMuch}
 use Rattle.lookup.specs.AnswerLaws.{above-limit, read-off-only, reached-only}
-use Rattle.capi.specs.declared.numbers.LitresNumbers.{LitresNumbers}
-use Rattle.capi.specs.declared.numbers.HeightNumbers.{HeightNumbers}
-use Rattle.capi.specs.Numbers.{tableNumbers, litresNumbers, heightNumbers, fileNumbers, convertedNumbers}
-use Rattle.capi.specs.Promises.{EveryCounted, OnTableAnswered, LowestAnswered, ConvertedKeeps}
-use Rattle.capi.specs.RefusalLaws.{litres-answered, height-answered, convert-answered}
+use Rattle.answers.specs.declared.numbers.LitresNumbers.{LitresNumbers}
+use Rattle.answers.specs.declared.numbers.HeightNumbers.{HeightNumbers}
+use Rattle.answers.specs.Numbers.{tableNumbers, litresNumbers, heightNumbers, fileNumbers, convertedNumbers}
+use Rattle.answers.specs.Promises.{EveryCounted, OnTableAnswered, LowestAnswered, ConvertedKeeps}
+use Rattle.answers.specs.RefusalLaws.{litres-answered, height-answered, convert-answered}
 
 pub counted : (claim : Survey → List ℕ → ℕ → Type 0) (file : Decoded) (cells : ℕ) (table : List ℕ)
     → EveryRow claim (file .survey) (made file cells) table → EveryCounted claim (file .survey) (tableNumbers (made file cells) .rows) table

@@ -1,9 +1,9 @@
--- `capi::numbers::height_numbers` meets its contract: each arm is the case of the definition that its variant leads to. Assumes nothing.
+-- `answers::numbers::height_numbers` meets its contract: each arm is the case of the definition that its variant leads to. Assumes nothing.
 use mathlib.Core.Path.{sym, ap}
 use borrow.Author.Needs.{needs}
-use Rattle.capi.specs.Numbers.{heightNumbers}
-use Rattle.capi.proofs.numbers.height_numbers.Statement.{statement}
-use Rattle.capi.proofs.numbers.height_numbers.Tie as tie
+use Rattle.answers.specs.Numbers.{heightNumbers}
+use Rattle.answers.proofs.numbers.height_numbers.Statement.{statement}
+use Rattle.answers.proofs.numbers.height_numbers.Tie as tie
 
 returns : tie.Need-returns
 returns c = rw (c .before .before .answer .given .1, c .units .ensures)

@@ -1,9 +1,9 @@
--- `capi::numbers::converted_numbers` meets its contract: each arm is the case of the definition that its verdict leads to. Assumes nothing.
+-- `answers::numbers::converted_numbers` meets its contract: each arm is the case of the definition that its verdict leads to. Assumes nothing.
 use mathlib.Core.Path.{sym, ap}
 use borrow.Author.Needs.{needs}
-use Rattle.capi.specs.Numbers.{fileNumbers}
-use Rattle.capi.proofs.numbers.converted_numbers.Statement.{statement}
-use Rattle.capi.proofs.numbers.converted_numbers.Tie as tie
+use Rattle.answers.specs.Numbers.{fileNumbers}
+use Rattle.answers.proofs.numbers.converted_numbers.Statement.{statement}
+use Rattle.answers.proofs.numbers.converted_numbers.Tie as tie
 
 returns : tie.Need-returns
 returns c =

@@ -20,7 +20,7 @@ use Rattle.convert.specs.Converted.{convertedBy, converted}
 use Rattle.lookup.specs.Litres.{litres}
 use Rattle.lookup.specs.Height.{heightFor}
 use Rattle.lookup.specs.Answer.{litresTests, litresBy, litresAnswer, heightTests, heightBy, heightAnswer}
-use Rattle.capi.specs.Numbers.{tableNumbers, litresNumbers, heightNumbers, convertedNumbers}
+use Rattle.answers.specs.Numbers.{tableNumbers, litresNumbers, heightNumbers, convertedNumbers}
 
 -- a number that is not in use
 module _ (n : ℕ) (unused : inUse n ≡ false) where

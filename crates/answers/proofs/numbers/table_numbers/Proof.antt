@@ -1,9 +1,9 @@
--- `capi::numbers::table_numbers` meets its contract: each arm is the case of the definition that its variant leads to. Assumes nothing.
+-- `answers::numbers::table_numbers` meets its contract: each arm is the case of the definition that its variant leads to. Assumes nothing.
 use mathlib.Core.Path.{sym, ap}
 use borrow.Author.Needs.{needs}
-use Rattle.capi.specs.Numbers.{tableNumbers}
-use Rattle.capi.proofs.numbers.table_numbers.Statement.{statement}
-use Rattle.capi.proofs.numbers.table_numbers.Tie as tie
+use Rattle.answers.specs.Numbers.{tableNumbers}
+use Rattle.answers.proofs.numbers.table_numbers.Statement.{statement}
+use Rattle.answers.proofs.numbers.table_numbers.Tie as tie
 
 returns : tie.Need-returns
 returns c = rw (c .before .before .before .answer .given .1, c .before .units .ensures, c .units2 .ensures)
