@@ -1,14 +1,14 @@
--- `table::tests::keeps_up` meets its contract. Assumes nothing.
+-- `row_tests::tests::keeps_up` meets its contract. Assumes nothing.
 use mathlib.Core.Path.{_∙_, sym, ap₂}
 use Prim.Native.Nat.{_-_}
 use lib.Signed.{leZ}
 use mir.Syntax.{w64}
 use mir.ValLaws.{toZ-ofZ}
 use Rattle.rows.specs.RowLaws.{netOf}
-use Rattle.table.specs.RowTestLaws.{keepsUp-before}
+use Rattle.row_tests.specs.RowTestLaws.{keepsUp-before}
 use borrow.Author.Needs.{needs}
-use Rattle.table.proofs.tests.keeps_up.Statement.{statement}
-use Rattle.table.proofs.tests.keeps_up.Tie as tie
+use Rattle.row_tests.proofs.tests.keeps_up.Statement.{statement}
+use Rattle.row_tests.proofs.tests.keeps_up.Tie as tie
 
 returns-2 : tie.Need-returns-2
 returns-2 c =

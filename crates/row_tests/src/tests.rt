@@ -4,7 +4,7 @@ ghost use Prim.Native.Nat.{_^_, _≤_, _<_};
 ghost use lib.ListN.{length};
 ghost use Rattle.refusal.specs.Test.{verdict, items};
 ghost use Rattle.rows.specs.RowLaws.{netOf};
-ghost use Rattle.table.specs.Tests.{keepsUp, fallTest};
+ghost use Rattle.row_tests.specs.Tests.{keepsUp, fallTest};
 use refusal::Verdict;
 use refusal::next_test;
 

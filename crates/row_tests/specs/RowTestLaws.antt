@@ -1,23 +1,29 @@
--- The tests of a table look at nothing but the rows, and what they say where they refuse nothing: no row falls, and none is below zero, though
--- none is tested for that. Assumes nothing.
+-- The tests of a table look at nothing but the rows, in memory or not, and their numbers are in use; and what they say where they refuse nothing: no
+-- row falls, and none is below zero, though none is tested for that. Assumes nothing.
 use Prim.Native.Nat.{ℕ, zero, suc, _-_, _≤_, _<_}
-use mathlib.Core.Path.{_≡_, refl, sym}
+use mathlib.Core.Path.{_≡_, refl, sym, ap}
 use mathlib.Core.Bool.{true}
 use mathlib.Core.List.{List, _++_}
 use native.Mathlib.Omega.{arith}
 use borrow.Author.Tests.{le-leb}
 use lib.Dec.{leb}
-use lib.IntN.{ℤ, pos, negsuc}
+use lib.IntN.{ℤ, pos, negsuc, natAbs}
+use lib.ListN.{drop}
 use lib.Signed.{leZ, nonNeg}
 use Rattle.laws.specs.Fill.{rowsOf}
+use Rattle.laws.specs.FillLaws.{rowsOf-agree}
 use Rattle.laws.specs.BoolLaws.{true-not-false}
-use Rattle.refusal.specs.declared.Verdict.the-variants.{Passed}
+use Rattle.refusal.specs.declared.Verdict.{Verdict}
+use Rattle.refusal.specs.declared.Verdict.the-variants.{Passed, Refused}
 use Rattle.refusal.specs.Test.{verdict, items}
 use Rattle.refusal.specs.TestLaws.{passed-pick, passed-items, passed-all, items-agree}
+use Rattle.refusal.specs.EachLaws.{each-item}
+use Rattle.refusal.specs.NumberLaws.{Numbered, InUse, verdict-in-use}
 use Rattle.survey.specs.declared.decode.Survey.{Survey}
 use Rattle.rows.specs.Rows.{rowsIn, netRow}
-use Rattle.rows.specs.RowLaws.{netOf, front-row, row-0-not-below-zero}
-use Rattle.table.specs.Tests.{keepsUp, fallTest, rowTests, tableTests}
+use Rattle.rows.specs.RowLaws.{netOf, cellIn, front-row, row-0-not-below-zero}
+use Rattle.row_tests.specs.Tests.{keepsUp, fallTest, rowTests, tableTests}
+use Rattle.row_tests.specs.Left.{leftBy}
 
 -- as the code tests them
 pub keepsUp-before : (row : ℕ → ℤ) (i : ℕ) → (i ≡ 0 → ⊥) → keepsUp row i ≡ leZ (row (i - 1)) (row i)
@@ -40,6 +46,18 @@ unfolding rowTests
 front-tests f n rest cells =
     let row = netOf (rowsOf f n ++ rest) in
     rw (items-agree n (fallTest row) (fallTest f) (falls-agree n row f (front-row f n rest)))
+
+-- the cells of rows at the front of a list in memory are those of the rows
+pub front-left : (v : Verdict) (f : ℕ → ℤ) (n : ℕ) (rest : List ℤ) (table : List ℕ)
+    → leftBy v (cellIn (rowsOf f n ++ rest)) n table ≡ leftBy v (λ i. natAbs (f i)) n table
+front-left Passed f n rest table =
+    ap (λ l. l ++ drop n table) (rowsOf-agree (cellIn (rowsOf f n ++ rest)) (λ i. natAbs (f i)) n (λ i l. ap natAbs (front-row f n rest i l)))
+front-left (Refused r) f n rest table = refl
+
+-- every refusal of rows has a number in use
+pub rows-in-use : (v : Survey) (cells : ℕ) → InUse (verdict (tableTests v cells))
+unfolding rowTests
+rows-in-use v cells = verdict-in-use (tableTests v cells) (refl, each-item Numbered (rowsIn v) (fallTest (netRow v)) (λ i l. (refl, tt)))
 
 not-below-zero-again : (y z : ℤ) → nonNeg y ≡ true → leZ y z ≡ true → nonNeg z ≡ true
 not-below-zero-again (pos m) (pos n) a e = refl

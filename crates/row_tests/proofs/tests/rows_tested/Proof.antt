@@ -1,4 +1,4 @@
--- `table::tests::rows_tested` meets its contract. The loop's invariant: the verdict is that on the rows passed. The measure is the number of
+-- `row_tests::tests::rows_tested` meets its contract. The loop's invariant: the verdict is that on the rows passed. The measure is the number of
 -- rows left. Assumes nothing.
 use mathlib.Core.Path.{_≡_, refl, _∙_, ap}
 use mathlib.Core.List.{[], _∷_}
@@ -7,9 +7,9 @@ use native.Mathlib.Omega.{arith}
 use Rattle.refusal.specs.Test.{test, verdict, items, firstRefusal}
 use Rattle.refusal.specs.TestLaws.{verdict-next}
 use Rattle.rows.specs.RowLaws.{netOf}
-use Rattle.table.specs.Tests.{fallTest}
-use Rattle.table.proofs.tests.rows_tested.Statement.{statement}
-use Rattle.table.proofs.tests.rows_tested.Tie as tie
+use Rattle.row_tests.specs.Tests.{fallTest}
+use Rattle.row_tests.proofs.tests.rows_tested.Statement.{statement}
+use Rattle.row_tests.proofs.tests.rows_tested.Tie as tie
 
 abbrev Inv-loop : tie.InvT-loop
 Inv-loop net rows falls₀ i₀ falls i = (i ≤ rows) × (falls ≡ verdict (items i (fallTest (netOf net))))

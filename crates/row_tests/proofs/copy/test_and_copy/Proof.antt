@@ -1,13 +1,13 @@
--- `table::copy::test_and_copy` meets its contract: each return is the case that its tests lead to. Assumes nothing.
+-- `row_tests::copy::test_and_copy` meets its contract: each return is the case that its tests lead to. Assumes nothing.
 use mathlib.Core.Path.{refl, sym, _∙_}
 use native.Mathlib.Omega.{arith}
 use borrow.Author.Tests.{lt-leb}
 use lib.ListN.{length}
-use Rattle.table.specs.Tests.{rowTests}
-use Rattle.table.specs.RowTestLaws.{room-enough}
+use Rattle.row_tests.specs.Tests.{rowTests}
+use Rattle.row_tests.specs.RowTestLaws.{room-enough}
 use borrow.Author.Needs.{needs}
-use Rattle.table.proofs.copy.test_and_copy.Statement.{statement}
-use Rattle.table.proofs.copy.test_and_copy.Tie as tie
+use Rattle.row_tests.proofs.copy.test_and_copy.Statement.{statement}
+use Rattle.row_tests.proofs.copy.test_and_copy.Tie as tie
 
 returns : tie.Need-returns
 unfolding rowTests

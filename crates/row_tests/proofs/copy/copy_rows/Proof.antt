@@ -1,4 +1,4 @@
--- `table::copy::copy_rows` meets its contract. The loop's invariant: the table holds the rows passed and is, from there on, as it was.
+-- `row_tests::copy::copy_rows` meets its contract. The loop's invariant: the table holds the rows passed and is, from there on, as it was.
 -- The measure is the number of rows left. Assumes nothing.
 use mathlib.Core.Path.{_≡_, _∙_, ap}
 use Prim.Native.Nat.{_-_, _≤_}
@@ -9,8 +9,8 @@ use mir.ValLaws.{toZ-ofZ}
 use Rattle.laws.specs.FillLaws.{Filled, filled-none, filled-more, filled-all}
 use Rattle.laws.specs.SignedLaws.{mag-at-most}
 use Rattle.rows.specs.RowLaws.{netOf, cellIn}
-use Rattle.table.proofs.copy.copy_rows.Statement.{statement}
-use Rattle.table.proofs.copy.copy_rows.Tie as tie
+use Rattle.row_tests.proofs.copy.copy_rows.Statement.{statement}
+use Rattle.row_tests.proofs.copy.copy_rows.Tie as tie
 
 abbrev Inv-loop : tie.InvT-loop
 Inv-loop net rows table₀ i₀ table i = (i ≤ rows) × Filled table₀ (cellIn net) i table
