@@ -14,29 +14,26 @@ ghost use Rattle.table.specs.Condition3.{NetRowAt, Condition3At};
 ghost use Rattle.convert.specs.Converted.{converted};
 ghost use Rattle.lookup.specs.Answer.{litresAnswer, TooHigh, heightAnswer, TooMuch};
 ghost use Rattle.wording.specs.Sentences.{faultSize};
-ghost use Rattle.capi.specs.Numbers.{tableNumbers, litresNumbers, heightNumbers, convertedNumbers, wordsOf};
-ghost use Rattle.capi.specs.Promises.{EveryCounted, OnTableAnswered, LowestAnswered, ConvertedKeeps};
+ghost use Rattle.answers.specs.Numbers.{tableNumbers, litresNumbers, heightNumbers, convertedNumbers, wordsOf};
+ghost use Rattle.answers.specs.Promises.{EveryCounted, OnTableAnswered, LowestAnswered, ConvertedKeeps};
+use answers::numbers::ConvertedNumbers;
+use answers::numbers::HeightNumbers;
+use answers::numbers::LitresNumbers;
+use answers::numbers::TableNumbers;
+use answers::numbers::converted_numbers;
+use answers::numbers::height_numbers;
+use answers::numbers::litres_numbers;
+use answers::numbers::table_numbers;
+use answers::words::Words;
+use answers::words::in_words;
 use convert::convert_48;
-use fault::fault::Fault;
 use fault::fault::fault_of;
 use fault::fault::fault_of_48;
 use lookup::height::height_for;
 use lookup::litres::litres_at;
 use measure::dip_height::DipHeight;
 use measure::volume::Volume;
-use numbers::ConvertedNumbers;
-use numbers::HeightNumbers;
-use numbers::LitresNumbers;
-use numbers::TableNumbers;
-use numbers::Words;
-use numbers::converted_numbers;
-use numbers::height_numbers;
-use numbers::litres_numbers;
-use numbers::table_numbers;
 use table::make::make_table;
-use wording::put_words;
-
-pub mod numbers;
 
 // The table of a survey, from the start of the lent table; a refusal leaves it as it was.
 #[no_mangle]
@@ -77,18 +74,6 @@ pub extern "C" fn milechime_convert_48(survey: &[u8]) -> ConvertedNumbers
     ensures { λ r. ⌜ r .length ≤ mostBytes ⌝ }
 {
     converted_numbers(convert_48(survey))
-}
-
-fn in_words(fault: Fault) -> Words
-    ensures { λ r. ⌜ r ≡ wordsOf fault ⌝ }
-    ensures { λ r. ⌜ r .length < faultSize ⌝ }
-{
-    let mut text = [0u8; 256];
-    let length = put_words(&mut text, 0, fault);
-    Words {
-        length: length as u32,
-        text,
-    }
 }
 
 // What a refusal of a survey's table is about, in words.

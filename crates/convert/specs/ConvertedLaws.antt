@@ -14,7 +14,7 @@ use Rattle.file.specs.Format.{format48}
 use Rattle.survey.specs.Survey.{decodedAs, decoded}
 use Rattle.rewrite.specs.Rewritten.{rewritten, mostBytes}
 use Rattle.rewrite.specs.RewrittenLaws.{rewritten-fits, rewritten-decoded}
-use Rattle.table.specs.Tests.{tableTests}
+use Rattle.row_tests.specs.Tests.{tableTests}
 use Rattle.table.specs.Answer.{verdictOn, made, tableLeft}
 use Rattle.convert.specs.Converted.{convertedBy, converted, fileIn, Keeps}
 

@@ -17,8 +17,8 @@ use Rattle.survey.specs.Survey.{decoded}
 use Rattle.survey.specs.SurveyLaws.{SurveyLimits, decoded-fits}
 use Rattle.rows.specs.Rows.{rowsIn, heightOf, grossRow}
 use Rattle.rows.specs.RowLaws.{net-is-gross}
+use Rattle.row_tests.specs.Tests.{tableTests}
 use Rattle.table.specs.declared.make.Made.{Made}
-use Rattle.table.specs.Tests.{tableTests}
 use Rattle.table.specs.Answer.{made, tableLeft}
 use Rattle.table.specs.AnswerLaws.{made-table}
 use Rattle.table.specs.Condition3.{NetRowAt, EveryRow}

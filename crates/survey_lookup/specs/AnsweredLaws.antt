@@ -26,8 +26,8 @@ use Rattle.survey.specs.declared.decode.Decoded.{Decoded}
 use Rattle.survey.specs.declared.decode.Survey.{Survey}
 use Rattle.survey.specs.SurveyLaws.{WithinLimits}
 use Rattle.rows.specs.Rows.{rowsIn, netRow, cellOf, tableOf}
-use Rattle.table.specs.Tests.{tableTests}
-use Rattle.table.specs.RowTestLaws.{none-falls, none-below-zero}
+use Rattle.row_tests.specs.Tests.{tableTests}
+use Rattle.row_tests.specs.RowTestLaws.{none-falls, none-below-zero}
 use Rattle.table.specs.Answer.{verdictOn}
 use Rattle.lookup.specs.declared.litres.LitresAnswer.{LitresAnswer}
 use Rattle.lookup.specs.declared.height.HeightAnswer.{HeightAnswer}

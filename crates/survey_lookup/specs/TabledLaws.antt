@@ -19,7 +19,7 @@ use Rattle.survey.specs.declared.decode.Survey.{Survey}
 use Rattle.survey.specs.Survey.{decoded}
 use Rattle.survey.specs.SurveyLaws.{WithinLimits, decoded-fits}
 use Rattle.rows.specs.Rows.{rowsIn, cellOf, tableOf}
-use Rattle.table.specs.Tests.{tableTests}
+use Rattle.row_tests.specs.Tests.{tableTests}
 use Rattle.table.specs.Answer.{verdictOn, tableLeft}
 use Rattle.table.specs.AnswerLaws.{front-is-table}
 use Rattle.lookup.specs.Table.{row}

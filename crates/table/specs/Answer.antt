@@ -1,18 +1,18 @@
 -- The call's whole answer and the table that it leaves: the refusal of the file, then those of its rows, in the paper's order.
 -- Assumes nothing.
 use Prim.Native.Nat.{ℕ}
-use mathlib.Core.List.{List, _++_}
-use lib.ListN.{length, drop}
-use Rattle.laws.specs.Fill.{rowsOf}
+use mathlib.Core.List.{List}
+use lib.ListN.{length}
 use Rattle.refusal.specs.declared.Verdict.{Verdict}
 use Rattle.refusal.specs.declared.Verdict.the-variants.{Passed, Refused}
 use Rattle.refusal.specs.Test.{verdict, firstRefusal}
 use Rattle.survey.specs.declared.decode.Decoded.{Decoded}
 use Rattle.survey.specs.declared.decode.Survey.{Survey}
 use Rattle.rows.specs.Rows.{rowsIn, cellOf}
+use Rattle.row_tests.specs.Tests.{tableTests}
+use Rattle.row_tests.specs.Left.{leftBy}
 use Rattle.table.specs.declared.make.Made.{Made}
 use Rattle.table.specs.declared.make.Made.the-variants as answers
-use Rattle.table.specs.Tests.{tableTests}
 
 -- refusals 1 to 9 and 14, for a lent table of so many cells
 abbrev pub verdictOn : Decoded → ℕ → Verdict
@@ -26,11 +26,6 @@ answerBy (Refused r) v = answers.Refused r
 -- the answer
 unfoldable pub made : Decoded → ℕ → Made
 made file cells = answerBy (verdictOn file cells) (file .survey)
-
--- the cells, then the rest as it was; or all as it was
-abbrev pub leftBy : Verdict → (ℕ → ℕ) → ℕ → List ℕ → List ℕ
-leftBy Passed cell rows table = rowsOf cell rows ++ drop rows table
-leftBy (Refused r) cell rows table = table
 
 -- the lent table as the call leaves it: the net rows and then the rest as it was, or all as it was
 unfoldable pub tableLeft : Decoded → List ℕ → List ℕ

@@ -1,14 +1,12 @@
 -- What the answer of the call that makes a table tells of the file and of the table that it left, and that bytes in no section change
--- neither; and what rows in memory leave. Assumes nothing.
+-- neither. Assumes nothing.
 use Prim.Native.Nat.{ℕ}
 use mathlib.Core.Path.{_≡_, refl, ap}
-use mathlib.Core.List.{List, _++_}
+use mathlib.Core.List.{List}
 use native.Mathlib.Omega.{arith}
-use lib.IntN.{ℤ, natAbs}
 use lib.ListN.{length, take, drop}
 use lib.Seq.{take-at}
-use Rattle.laws.specs.Fill.{rowsOf}
-use Rattle.laws.specs.FillLaws.{length-rowsOf, rowsOf-agree}
+use Rattle.laws.specs.FillLaws.{length-rowsOf}
 use Rattle.measure.specs.declared.diameter.Diameter.{Diameter}
 use Rattle.refusal.specs.declared.Refusal.{Refusal}
 use Rattle.refusal.specs.declared.Verdict.{Verdict}
@@ -17,9 +15,8 @@ use Rattle.survey.specs.declared.decode.Decoded.{Decoded}
 use Rattle.survey.specs.Survey.{decoded}
 use Rattle.survey.specs.IgnoredLaws.{SameSections, other-bytes-ignored}
 use Rattle.rows.specs.Rows.{rowsIn, cellOf, tableOf}
-use Rattle.rows.specs.RowLaws.{cellIn, front-row}
 use Rattle.table.specs.declared.make.Made.{Made}
-use Rattle.table.specs.Answer.{verdictOn, answerBy, leftBy, made, tableLeft}
+use Rattle.table.specs.Answer.{verdictOn, answerBy, made, tableLeft}
 
 pub made-refused : (file : Decoded) (cells : ℕ) {r : Refusal} → made file cells ≡ Made.Refused r → verdictOn file cells ≡ Refused r
 unfolding made
@@ -51,10 +48,3 @@ same-answer s s′ cells same = ap (λ file. made file cells) (other-bytes-ignor
 -- .. and leave the same table
 pub same-table : (s s′ table : List ℕ) → SameSections s s′ → tableLeft (decoded s) table ≡ tableLeft (decoded s′) table
 same-table s s′ table same = ap (λ file. tableLeft file table) (other-bytes-ignored s s′ same)
-
--- the cells of rows at the front of a list in memory are those of the rows
-pub front-left : (v : Verdict) (f : ℕ → ℤ) (n : ℕ) (rest : List ℤ) (table : List ℕ)
-    → leftBy v (cellIn (rowsOf f n ++ rest)) n table ≡ leftBy v (λ i. natAbs (f i)) n table
-front-left Passed f n rest table =
-    ap (λ l. l ++ drop n table) (rowsOf-agree (cellIn (rowsOf f n ++ rest)) (λ i. natAbs (f i)) n (λ i l. ap natAbs (front-row f n rest i l)))
-front-left (Refused r) f n rest table = refl

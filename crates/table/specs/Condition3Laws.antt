@@ -19,9 +19,10 @@ use Rattle.survey.specs.declared.decode.Decoded.{Decoded}
 use Rattle.survey.specs.declared.decode.Survey.{Survey}
 use Rattle.survey.specs.SurveyLaws.{SurveyLimits, WithinLimits}
 use Rattle.rows.specs.Rows.{sharesAt, netAt, rowsIn, heightOf, grossRow, netRow, cellOf}
-use Rattle.table.specs.Tests.{tableTests}
-use Rattle.table.specs.RowTestLaws.{none-below-zero}
-use Rattle.table.specs.Answer.{verdictOn, answerBy, leftBy, made, tableLeft}
+use Rattle.row_tests.specs.Tests.{tableTests}
+use Rattle.row_tests.specs.RowTestLaws.{none-below-zero}
+use Rattle.row_tests.specs.Left.{leftBy}
+use Rattle.table.specs.Answer.{verdictOn, answerBy, made, tableLeft}
 use Rattle.table.specs.Condition3.{NetRowAt, Condition3At, EveryRow}
 
 natural-size : (z : ℤ) → nonNeg z ≡ true → pos (natAbs z) ≡ z

@@ -1,8 +1,6 @@
--- From a survey to its table: the tests of the rows, the call's whole answer, and condition 3 of what it writes; then the laws of these.
-pub mod Tests
+-- From a survey to its table: the call's whole answer, and condition 3 of what it writes; then the laws of these.
 pub mod Answer
 pub mod Condition3
-pub mod RowTestLaws
 pub mod AnswerLaws
 pub mod RetiredLaws
 pub mod NumberedLaws

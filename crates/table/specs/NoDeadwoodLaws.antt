@@ -17,9 +17,9 @@ use Rattle.survey.specs.declared.decode.Survey.{Survey}
 use Rattle.survey.specs.SurveyLaws.{SurveyLimits, WithinLimits}
 use Rattle.rows.specs.Rows.{rowsIn, heightOf, netRow}
 use Rattle.rows.specs.RowLaws.{net-is-gross}
+use Rattle.row_tests.specs.Tests.{keepsUp, fallTest, tableTests}
+use Rattle.row_tests.specs.RowTestLaws.{room-enough}
 use Rattle.table.specs.declared.make.Made.{Made}
-use Rattle.table.specs.Tests.{keepsUp, fallTest, tableTests}
-use Rattle.table.specs.RowTestLaws.{room-enough}
 use Rattle.table.specs.Answer.{made}
 
 module _ (v : Survey) (limits : SurveyLimits v) (no-items : v .count ≡ 0) where

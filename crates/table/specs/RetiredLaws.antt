@@ -16,9 +16,9 @@ use Rattle.refusal.specs.TestLaws.{verdict-append, passed-both, all-passed}
 use Rattle.survey.specs.declared.decode.Decoded.{Decoded}
 use Rattle.survey.specs.declared.decode.Survey.{Survey}
 use Rattle.rows.specs.Rows.{rowsIn, netRow}
+use Rattle.row_tests.specs.Tests.{fallTest, rowTests, tableTests}
+use Rattle.row_tests.specs.RowTestLaws.{none-below-zero}
 use Rattle.table.specs.declared.make.Made.{Made}
-use Rattle.table.specs.Tests.{fallTest, rowTests, tableTests}
-use Rattle.table.specs.RowTestLaws.{none-below-zero}
 use Rattle.table.specs.Answer.{verdictOn, made}
 use Rattle.table.specs.AnswerLaws.{made-table}
 

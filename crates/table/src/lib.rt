@@ -1,5 +1,3 @@
 // From a survey to its capacity table.
-mod copy;
 pub mod judge;
 pub mod make;
-mod tests;

@@ -2,9 +2,9 @@
 use mathlib.Core.Path.{_∙_, ap}
 use borrow.Author.Needs.{needs}
 use Rattle.convert.specs.Converted.{converted}
-use Rattle.capi.specs.Numbers.{convertedNumbers}
+use Rattle.answers.specs.Numbers.{convertedNumbers}
 use Rattle.convert.specs.ConvertedLaws.{converted-short}
-use Rattle.capi.specs.PromiseLaws.{converted-keeps, numbers-short}
+use Rattle.answers.specs.PromiseLaws.{converted-keeps, numbers-short}
 use Rattle.capi.proofs.milechime_convert_48.Statement.{statement}
 use Rattle.capi.proofs.milechime_convert_48.Tie as tie
 

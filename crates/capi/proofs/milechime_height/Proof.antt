@@ -3,8 +3,8 @@ use mathlib.Core.Path.{_∙_, ap}
 use borrow.Author.Needs.{needs}
 use Rattle.lookup.specs.Answer.{heightAnswer}
 use Rattle.measure.specs.Quantity.{volumeUnits}
-use Rattle.capi.specs.Numbers.{heightNumbers}
-use Rattle.capi.specs.PromiseLaws.{lowest-answered, number-13}
+use Rattle.answers.specs.Numbers.{heightNumbers}
+use Rattle.answers.specs.PromiseLaws.{lowest-answered, number-13}
 use Rattle.capi.proofs.milechime_height.Statement.{statement}
 use Rattle.capi.proofs.milechime_height.Tie as tie
 

@@ -3,8 +3,8 @@ use mathlib.Core.Path.{_∙_, ap}
 use borrow.Author.Needs.{needs}
 use Rattle.lookup.specs.Answer.{litresAnswer}
 use Rattle.measure.specs.Quantity.{dipUnits}
-use Rattle.capi.specs.Numbers.{litresNumbers}
-use Rattle.capi.specs.PromiseLaws.{on-table-answered, number-12}
+use Rattle.answers.specs.Numbers.{litresNumbers}
+use Rattle.answers.specs.PromiseLaws.{on-table-answered, number-12}
 use Rattle.capi.proofs.milechime_litres.Statement.{statement}
 use Rattle.capi.proofs.milechime_litres.Tie as tie
 

@@ -5,8 +5,8 @@ use lib.ListN.{length}
 use borrow.Author.Needs.{needs}
 use Rattle.survey.specs.Survey.{decoded}
 use Rattle.table.specs.Condition3.{NetRowAt, Condition3At}
-use Rattle.capi.specs.Numbers.{tableNumbers}
-use Rattle.capi.specs.PromiseLaws.{counted}
+use Rattle.answers.specs.Numbers.{tableNumbers}
+use Rattle.answers.specs.PromiseLaws.{counted}
 use Rattle.capi.proofs.milechime_table.Statement.{statement}
 use Rattle.capi.proofs.milechime_table.Tie as tie
 

@@ -2,7 +2,7 @@
 use mathlib.Core.Path.{sym, _∙_, ap}
 use Rattle.refusal.specs.Test.{verdict, firstRefusal}
 use Rattle.schedule.specs.Rows.{mostRows}
-use Rattle.table.specs.Tests.{tableTests}
+use Rattle.row_tests.specs.Tests.{tableTests}
 use borrow.Author.Needs.{needs}
 use Rattle.table.proofs.judge.judged.Statement.{statement}
 use Rattle.table.proofs.judge.judged.Tie as tie

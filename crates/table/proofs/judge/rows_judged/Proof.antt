@@ -7,8 +7,8 @@ use Rattle.refusal.specs.Test.{verdict}
 use Rattle.schedule.specs.Rows.{mostRows}
 use Rattle.rows.specs.Rows.{netRow}
 use Rattle.rows.specs.RowLaws.{netOf}
-use Rattle.table.specs.Tests.{rowTests}
-use Rattle.table.specs.RowTestLaws.{room-enough, front-tests}
+use Rattle.row_tests.specs.Tests.{rowTests}
+use Rattle.row_tests.specs.RowTestLaws.{room-enough, front-tests}
 use borrow.Author.Needs.{needs}
 use Rattle.table.proofs.judge.rows_judged.Statement.{statement}
 use Rattle.table.proofs.judge.rows_judged.Tie as tie

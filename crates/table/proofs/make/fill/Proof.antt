@@ -10,10 +10,9 @@ use Rattle.laws.specs.FillLaws.{length-rowsOf}
 use Rattle.refusal.specs.Test.{verdict}
 use Rattle.rows.specs.Rows.{heightOf, netRow, cellOf}
 use Rattle.rows.specs.RowLaws.{netOf, cellIn, net-small, front-row}
-use Rattle.table.specs.Tests.{rowTests}
-use Rattle.table.specs.RowTestLaws.{front-tests}
-use Rattle.table.specs.Answer.{leftBy}
-use Rattle.table.specs.AnswerLaws.{front-left}
+use Rattle.row_tests.specs.Tests.{rowTests}
+use Rattle.row_tests.specs.RowTestLaws.{front-tests, front-left}
+use Rattle.row_tests.specs.Left.{leftBy}
 use borrow.Author.Needs.{needs}
 use Rattle.table.proofs.make.fill.Statement.{statement}
 use Rattle.table.proofs.make.fill.Tie as tie

@@ -1,7 +1,8 @@
 -- `table::make::fill_and_answer` meets its contract: by the verdict on the rows. Assumes nothing.
 use mathlib.Core.Path.{_∙_, ap}
 use Rattle.rows.specs.Rows.{rowsIn, cellOf}
-use Rattle.table.specs.Answer.{leftBy, answerBy}
+use Rattle.row_tests.specs.Left.{leftBy}
+use Rattle.table.specs.Answer.{answerBy}
 use borrow.Author.Needs.{needs}
 use Rattle.table.proofs.make.fill_and_answer.Statement.{statement}
 use Rattle.table.proofs.make.fill_and_answer.Tie as tie

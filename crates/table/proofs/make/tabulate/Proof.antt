@@ -3,8 +3,9 @@ use mathlib.Core.Path.{sym, _∙_, ap}
 use lib.ListN.{length}
 use Rattle.refusal.specs.Test.{verdict, firstRefusal}
 use Rattle.rows.specs.Rows.{rowsIn, cellOf}
-use Rattle.table.specs.Tests.{tableTests}
-use Rattle.table.specs.Answer.{leftBy, answerBy, made, tableLeft}
+use Rattle.row_tests.specs.Tests.{tableTests}
+use Rattle.row_tests.specs.Left.{leftBy}
+use Rattle.table.specs.Answer.{answerBy, made, tableLeft}
 use Rattle.table.specs.Condition3Laws.{net-rows-left, condition3-left}
 use borrow.Author.Needs.{needs}
 use Rattle.table.proofs.make.tabulate.Statement.{statement}
