@@ -139,6 +139,6 @@ def built_code():
     same("found in the library's other functions", {"div", "imul"}, multiplying(others) & {"div", "imul"})
 
 
-done = subprocess.run(["rt", "staticlib", "capi"], cwd=ROOT, capture_output=True, text=True)
-same("rt staticlib capi", 0, done.returncode)
+done = subprocess.run(["tests/archive.sh"], cwd=ROOT, capture_output=True, text=True)
+same("tests/archive.sh", 0, done.returncode)
 try_all("the chord", sources, samples_in_sources, proved_code, built_code)

@@ -27,7 +27,7 @@ mkdir -p target/c
 
 step "the programs and libcapi.a"
 quietly rt check tanktable tanklookup tankconvert
-quietly rt staticlib capi
+quietly tests/archive.sh
 archive=target/staticlib/libcapi.a
 
 step "the C test"

@@ -20,7 +20,14 @@ use Rattle.numbers.specs.Reading.{riseOf, corrected}
 use Rattle.dimensions.specs.declared.dimensions.Sums.{Sums}
 use Rattle.dimensions.specs.declared.dimensions.Dimensions.{Dimensions}
 use Rattle.dimensions.specs.declared.dimensions.Dimensions.the-variants.{Found, Refused}
-use Rattle.dimensions.specs.Limits.{courseAllowance, farthest}
+
+-- how far the course lengths together may lie from L1, for each course
+abbrev pub courseAllowance : ℕ
+courseAllowance = 100
+
+-- how far a diameter may lie from DH
+abbrev pub farthest : ℕ
+farthest = 10000
 
 -- what the course at a byte adds to the sums: (first + second circumference) · length, its length, its thickness. Both circumferences have
 -- lost the tape rise

@@ -27,8 +27,7 @@ use Rattle.file.specs.Section.{courses, sections, recordAt, recordLong}
 use Rattle.file.specs.Tests.{countTests, placeTests, layoutTests}
 use Rattle.file.specs.FormatLaws.{Readable, today-readable}
 use Rattle.numbers.specs.Reading.{riseOf}
-use Rattle.numbers.specs.Tests.{headerTests, limitTests, correctedTests, numberTests}
-use Rattle.numbers.specs.Tests.{courseTests, itemTests, seamTests, readingTests, recordTests, sectionTests, sectionsTests}
+use Rattle.numbers.specs.Tests.{headerTests, limitTests, correctedTests, numberTests, courseTests, itemTests, seamTests, readingTests, recordTests, sectionTests, sectionsTests}
 use Rattle.dimensions.specs.Dimensions.{d1, diameterFits}
 use Rattle.dimensions.specs.Tests.{dimensionTests}
 use Rattle.survey.specs.Tests.{fileTests, passed, limitsPass, numbersPass}

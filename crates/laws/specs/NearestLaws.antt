@@ -3,8 +3,7 @@
 -- hold of a half that goes either way. Assumes nothing.
 use Prim.Native.Nat.{ℕ, _+_, _*_, _/_, _%_, _≤_, _<_}
 use mathlib.Core.Path.{_≡_, sym, _∙_, ap, subst}
-use native.Mathlib.Nat.{le-trans, le-of-eq, mul-le-mul-right, mul-le-mul-left, mul-lt-mul-of-pos-left, mod-lt}
-use native.Mathlib.Nat.{div-eq-of-lt-le, div-add-mod'}
+use native.Mathlib.Nat.{le-trans, le-of-eq, mul-le-mul-right, mul-le-mul-left, mul-lt-mul-of-pos-left, mod-lt, div-eq-of-lt-le, div-add-mod'}
 use native.Mathlib.Omega.{arith}
 use lib.Dec.{ltb}
 use borrow.Author.Tests.{lt-ltb, le-ltb}

@@ -14,8 +14,7 @@ use Rattle.file.specs.declared.section.Section.{Section}
 use Rattle.file.specs.declared.section.Records.{Records}
 use Rattle.file.specs.declared.section.Records.the-variants.{Courses, Deadwood, Seams}
 use Rattle.file.specs.Word.{word}
-use Rattle.file.specs.Layout.{kindAt, dhAt, l1At, leftAt, rightAt, l2At, l3At, stepAt, firstIn, secondIn, lengthIn, thicknessIn, highIn, volumeIn}
-use Rattle.file.specs.Layout.{seamNumberIn, seamThicknessIn, seamWidthIn}
+use Rattle.file.specs.Layout.{kindAt, dhAt, l1At, leftAt, rightAt, l2At, l3At, stepAt, firstIn, secondIn, lengthIn, thicknessIn, highIn, volumeIn, seamNumberIn, seamThicknessIn, seamWidthIn}
 use Rattle.file.specs.Section.{courses, sections, recordAt}
 use Rattle.numbers.specs.Limits.{shortestCircumference, longestCircumference, shortestShell, shortestCourse, thinnest, thickest}
 use Rattle.numbers.specs.Item.{itemFrom}

@@ -16,12 +16,11 @@ use Rattle.file.specs.declared.section.Section.{Section}
 use Rattle.file.specs.Word.{word, signedWord}
 use Rattle.file.specs.Layout.{kindAt, dhAt, l1At, leftAt, rightAt, l2At, l3At, stepAt, coursesAt, firstIn, secondIn, lengthIn, thicknessIn, lowIn, highIn, volumeIn, courseEnd, itemEnd}
 use Rattle.file.specs.Section.{courses, deadwood, recordAt}
-use Rattle.numbers.specs.Item.{itemFrom}
+use Rattle.numbers.specs.Item.{itemFrom, itemsOf}
 use Rattle.numbers.specs.Reading.{riseOf}
 use Rattle.dimensions.specs.Dimensions.{sumOf, sumsOver, sumsOf, shellDiameter, d1, d2}
 use Rattle.numbers.specs.Tests.{headerTests, courseTests, itemTests, readingTests}
 use Rattle.dimensions.specs.Tests.{dimensionTests}
-use Rattle.numbers.specs.Item.{itemsOf}
 use Rattle.survey.specs.Survey.{surveyOf}
 
 -- records of two sections have the same words, up to so many bytes

@@ -24,16 +24,14 @@ use Rattle.file.specs.declared.section.Records.the-variants.{Courses, Deadwood,
 use Rattle.file.specs.Word.{word, signedWord}
 use Rattle.file.specs.Layout.{headerEnd, kindAt, dhAt, l1At, leftAt, rightAt, l2At, l3At, stepAt, coursesAt, deadwoodAt, seamsAt}
 use Rattle.file.specs.Format.{today}
-use Rattle.file.specs.Layout.{seamHeaderEnd, courseEnd, itemEnd, seamEnd, firstIn, secondIn, lengthIn, thicknessIn, lowIn, highIn, volumeIn}
-use Rattle.file.specs.Layout.{seamNumberIn, seamThicknessIn, seamWidthIn, hasSeams}
+use Rattle.file.specs.Layout.{seamHeaderEnd, courseEnd, itemEnd, seamEnd, firstIn, secondIn, lengthIn, thicknessIn, lowIn, highIn, volumeIn, seamNumberIn, seamThicknessIn, seamWidthIn, hasSeams}
 use Rattle.file.specs.Limits.{largestFile}
 use Rattle.file.specs.Section.{courses, deadwood, seamWord, seams, sections, recordAt, endOf, placed, recordLong}
 use Rattle.file.specs.FormatLaws.{Readable, today-readable}
 use Rattle.file.specs.Tests.{countTests, apartTests, placeTests, layoutTests}
 use Rattle.numbers.specs.Item.{itemFrom, itemsOf}
 use Rattle.numbers.specs.Reading.{seamFrom, seamOf, riseOf}
-use Rattle.numbers.specs.Tests.{headerTests, limitTests, correctedTests, numberTests}
-use Rattle.numbers.specs.Tests.{courseTests, itemTests, seamTests, readingTests, recordTests, sectionTests}
+use Rattle.numbers.specs.Tests.{headerTests, limitTests, correctedTests, numberTests, courseTests, itemTests, seamTests, readingTests, recordTests, sectionTests}
 use Rattle.dimensions.specs.Dimensions.{sumOf, added, sumsOver, sumsOf, shellDiameter, d1, d2}
 use Rattle.dimensions.specs.Tests.{dimensionTests}
 use Rattle.survey.specs.Tests.{fileTests}

@@ -15,8 +15,7 @@ use Rattle.file.specs.Format.{today}
 use Rattle.file.specs.Section.{courses, sections, recordAt}
 use Rattle.file.specs.Tests.{layoutTests}
 use Rattle.numbers.specs.Reading.{riseOf}
-use Rattle.numbers.specs.Tests.{headerTests, courseTests, itemTests, seamTests, readingTests, recordTests, sectionTests, sectionsTests}
-use Rattle.numbers.specs.Tests.{limitTests, correctedTests, numberTests}
+use Rattle.numbers.specs.Tests.{headerTests, courseTests, itemTests, seamTests, readingTests, recordTests, sectionTests, sectionsTests, limitTests, correctedTests, numberTests}
 use Rattle.dimensions.specs.Tests.{dimensionTests}
 use Rattle.survey.specs.declared.decode.Survey.{Survey}
 use Rattle.survey.specs.Tests.{fileTests}

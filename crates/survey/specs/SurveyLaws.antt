@@ -30,8 +30,7 @@ use Rattle.file.specs.Tests.{layoutTests}
 use Rattle.numbers.specs.Tests.{numberTests}
 use Rattle.numbers.specs.Item.{itemsOf}
 use Rattle.numbers.specs.FitLaws.{NumbersFit, as-they-stand, dh-fits, step-fits, lengths-fit, head-length-fits, items-fit}
-use Rattle.dimensions.specs.Limits.{farthest}
-use Rattle.dimensions.specs.Dimensions.{d1, d2, diameterFits}
+use Rattle.dimensions.specs.Dimensions.{farthest, d1, d2, diameterFits}
 use Rattle.dimensions.specs.Tests.{dimensionTests}
 use Rattle.survey.specs.declared.decode.Decoded.{Decoded}
 use Rattle.survey.specs.declared.decode.Survey.{Survey}

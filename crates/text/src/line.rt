@@ -1,9 +1,8 @@
 // The lines that the programs print, each with its line end, put into lent memory; and how long a line can be.
 ghost use Prim.Native.Nat.{_≤_};
 ghost use lib.ListN.{length};
-ghost use Rattle.text.specs.Lines.{rowsLine, rowLine, refusedLine, figureLine, signedLine};
+ghost use Rattle.text.specs.Lines.{rowsLine, rowLine, refusedLine, figureLine, signedLine, lineSize, rowSize};
 ghost use Rattle.text.specs.Put.{Put};
-ghost use Rattle.text.specs.Lines.{lineSize, rowSize};
 use crate::put::put_byte;
 use crate::put::put_bytes;
 use crate::put::put_digits;

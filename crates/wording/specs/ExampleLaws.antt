@@ -4,8 +4,7 @@ use Prim.Native.Nat.{_+_}
 use mathlib.Core.Path.{_≡_, refl}
 use lib.IntN.{pos, negsuc}
 use Rattle.fault.specs.Fault.{faultWith}
-use Rattle.fault.specs.Sentence.{ofCourses, ofDeadwood, ofSize, ofLargeFile, ofOverlap, ofLengths, ofShellDiameter, ofHeadDiameter}
-use Rattle.fault.specs.Sentence.{ofHeadLength, ofLentTable, ofFallingRow, ofUnknown}
+use Rattle.fault.specs.Sentence.{ofCourses, ofDeadwood, ofSize, ofLargeFile, ofOverlap, ofLengths, ofShellDiameter, ofHeadDiameter, ofHeadLength, ofLentTable, ofFallingRow, ofUnknown}
 use Rattle.text.specs.Ascii.{ascii}
 use Rattle.text.specs.Digits.{digits, inThrees, grouped}
 use Rattle.text.specs.Sentence.{behindLines, firstLine, filledIn, filled}
