@@ -9,7 +9,7 @@ ghost use Rattle.measure.specs.Quantity.{diameter};
 ghost use Rattle.tank.specs.Limits.{longestShell};
 ghost use Rattle.file.specs.Limits.{mostCourses};
 ghost use Rattle.file.specs.Layout.{courseEnd};
-ghost use Rattle.file.specs.FormatLaws.{Readable};
+ghost use Rattle.file.specs.SectionLaws.{Readable};
 ghost use Rattle.numbers.specs.CourseLaws.{CourseFits};
 ghost use Rattle.numbers.specs.FitLaws.{NumbersFit};
 ghost use Rattle.dimensions.specs.Dimensions.{sumOf, added, sumsOf, allowance, lengthsFit, outerDiameter, wall, shellDiameter, headDiameter, diameterFits, dimensions, headsTested};

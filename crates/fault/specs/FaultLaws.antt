@@ -29,8 +29,7 @@ use Rattle.file.specs.Layout.{headerEnd, seamHeaderEnd, kindAt, dhAt, l1At, lef
 use Rattle.file.specs.Limits.{mostCourses}
 use Rattle.file.specs.Layout.{firstIn, secondIn, lengthIn, thicknessIn, volumeIn}
 use Rattle.file.specs.Section.{courses, deadwood, seams, sections, seamItems, recordAt, endOf, placed, apart, recordLong}
-use Rattle.file.specs.FormatLaws.{Readable}
-use Rattle.file.specs.SectionLaws.{placed-inside}
+use Rattle.file.specs.SectionLaws.{Readable, placed-inside}
 use Rattle.file.specs.Tests.{apartTests, placeTests}
 use Rattle.numbers.specs.Limits.{shortestCircumference, longestCircumference}
 use Rattle.numbers.specs.Reading.{riseOf, corrected}

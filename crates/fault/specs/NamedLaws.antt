@@ -25,7 +25,7 @@ use Rattle.file.specs.Format.{today}
 use Rattle.file.specs.Limits.{largestFile}
 use Rattle.file.specs.Section.{courses, sections, recordAt, recordLong}
 use Rattle.file.specs.Tests.{countTests, placeTests, layoutTests}
-use Rattle.file.specs.FormatLaws.{Readable, today-readable}
+use Rattle.file.specs.SectionLaws.{Readable, today-readable}
 use Rattle.numbers.specs.Reading.{riseOf}
 use Rattle.numbers.specs.Tests.{headerTests, limitTests, correctedTests, numberTests, courseTests, itemTests, seamTests, readingTests, recordTests, sectionTests, sectionsTests}
 use Rattle.dimensions.specs.Dimensions.{d1, diameterFits}

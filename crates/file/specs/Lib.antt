@@ -6,5 +6,4 @@ pub mod Format
 pub mod Limits
 pub mod Section
 pub mod Tests
-pub mod FormatLaws
 pub mod SectionLaws

@@ -1,4 +1,4 @@
--- What a file that passes refusals 1 to 3 promises, as plain facts: its size, its counts, and that
+-- What a format must have to be read, and that document 01's and today's have it; and what a file that passes refusals 1 to 3 promises, as plain facts: its size, its counts, and that
 -- every record of a section lies inside it. Assumes nothing.
 use Prim.Native.Nat.{ℕ, _+_, _^_, _≤_, _<_}
 use mathlib.Core.Path.{_≡_}
@@ -18,11 +18,46 @@ use Rattle.file.specs.declared.format.Format.{Format}
 use Rattle.file.specs.declared.section.Section.{Section}
 use Rattle.file.specs.declared.section.Records.{Records}
 use Rattle.file.specs.declared.section.Records.the-variants.{Courses, Deadwood, Seams}
-use Rattle.file.specs.Layout.{headerEnd, itemEnd}
+use Rattle.file.specs.Layout.{headerEnd, seamHeaderEnd, courseEnd, itemEnd, seamEnd}
+use Rattle.file.specs.Format.{formatOf, format48, today}
 use Rattle.file.specs.Limits.{largestFile, mostCourses}
-use Rattle.file.specs.Section.{courses, deadwood, seams, seamItems, recordAt, endOf, placed, recordLong}
+use Rattle.file.specs.Section.{courses, deadwood, seams, recordAt, endOf, placed, recordLong}
 use Rattle.file.specs.Tests.{layoutTests}
-use Rattle.file.specs.FormatLaws.{longestRecord, Readable}
+
+-- a bound on the length of a record
+abbrev pub longestRecord : ℕ
+longestRecord = 64
+
+-- the words of document 01 lie inside header and records, some file can hold the header, and records are short
+pub record Readable (f : Format) : Type 0 where
+  pub header : headerEnd ≤ f .header
+  pub header-short : f .header ≤ largestFile
+  pub course : courseEnd ≤ f .course
+  pub course-short : f .course ≤ longestRecord
+  pub deadwood : itemEnd ≤ f .deadwood
+  pub deadwood-short : f .deadwood ≤ longestRecord
+  pub seam : seamEnd ≤ f .seam
+  pub seam-short : f .seam ≤ longestRecord
+
+-- the format of document 01 can be read, and today's
+
+readable : (header : ℕ) → headerEnd ≤ header → header ≤ largestFile → Readable (formatOf header)
+readable header long short = record {
+  header = long;
+  header-short = short;
+  course = omega arith;
+  course-short = omega arith;
+  deadwood = omega arith;
+  deadwood-short = omega arith;
+  seam = omega arith;
+  seam-short = omega arith;
+}
+
+pub format48-readable : Readable format48
+format48-readable = readable headerEnd (omega arith) (omega arith)
+
+pub today-readable : Readable today
+today-readable = readable seamHeaderEnd (omega arith) (omega arith)
 
 -- a section of words and a short record: no sum over it wraps
 pub record Small (x : Section) : Type 0 where
@@ -64,7 +99,6 @@ pub record Placed (f : Format) (s : List ℕ) : Type 0 where
   pub someCourse : 1 ≤ courses f s .count
   pub fewCourses : courses f s .count ≤ mostCourses
   pub fewItems : deadwood f s .count ≤ mostItems
-  pub eachSeamed : seams f s .count ≡ seamItems f s
 
 pub placed-file : (f : Format) (s : List ℕ) → Readable f → within (f .header) (length s) largestFile ≡ true → verdict (layoutTests f s) ≡ Passed → Placed f s
 unfolding layoutTests
@@ -72,7 +106,6 @@ placed-file f s readable size passed =
     let file = within-pass (f .header) (length s) largestFile size in
     let pass = passed-all (layoutTests f s) passed in
     let courses-count = within-pass 1 (courses f s .count) mostCourses (pass .0) in
-    let seams-count = within-pass (seamItems f s) (seams f s .count) (seamItems f s) (pass .1 .1 .0) in
     let inside : (x : Section) → recordLong (x .records) ≤ x .size → placed (f .header) (length s) x ≡ true → Inside s x =
     λ x long there. record {
       header = omega (arith, readable .header, file .0);
@@ -89,5 +122,4 @@ placed-file f s readable size passed =
       someCourse = courses-count .0;
       fewCourses = courses-count .1;
       fewItems = within-pass 0 (deadwood f s .count) mostItems (pass .1 .0) .1;
-      eachSeamed = omega (arith, seams-count);
     }

@@ -2,8 +2,7 @@
 // that have lost the tape rise.
 ghost use mathlib.Core.Path.{_≡_};
 ghost use Rattle.refusal.specs.Test.{verdict};
-ghost use Rattle.file.specs.FormatLaws.{Readable};
-ghost use Rattle.file.specs.SectionLaws.{Inside, Placed};
+ghost use Rattle.file.specs.SectionLaws.{Readable, Inside, Placed};
 ghost use Rattle.numbers.specs.Tests.{sectionTests, limitTests, numberTests};
 use crate::header::header_tested;
 use crate::reading::readings_tested;

@@ -5,7 +5,7 @@ ghost use lib.ListN.{length};
 ghost use Rattle.refusal.specs.Test.{verdict, firstRefusal, within};
 ghost use Rattle.file.specs.Word.{word};
 ghost use Rattle.file.specs.Layout.{courseEnd, seamEnd};
-ghost use Rattle.file.specs.FormatLaws.{Readable};
+ghost use Rattle.file.specs.SectionLaws.{Readable};
 ghost use Rattle.numbers.specs.Limits.{shortestCircumference, longestCircumference};
 ghost use Rattle.numbers.specs.FitLaws.{LimitsFit};
 ghost use Rattle.numbers.specs.Reading.{seamFrom, riseOf, corrected};

@@ -23,7 +23,7 @@ use Rattle.file.specs.Layout.{kindAt, dhAt, coursesAt, courseEnd, itemEnd, seam
 use Rattle.file.specs.Format.{format48, today}
 use Rattle.file.specs.Limits.{largestFile, mostCourses}
 use Rattle.file.specs.Section.{courses, deadwood, seams, sections, recordAt, endOf, placed, apart}
-use Rattle.file.specs.SectionLaws.{Inside, Placed}
+use Rattle.file.specs.SectionLaws.{format48-readable, Inside, Placed}
 use Rattle.numbers.specs.Reading.{seamOf, riseOf}
 use Rattle.file.specs.Tests.{layoutTests}
 use Rattle.numbers.specs.Tests.{headerTests, courseTests, itemTests, seamTests, sectionTests, sectionsTests, limitTests, readingTests, correctedTests, numberTests}
@@ -32,7 +32,6 @@ use Rattle.survey.specs.Tests.{fileTests}
 use Rattle.survey.specs.Survey.{decodedBy, decodedAs, decoded}
 use Rattle.numbers.specs.FitLaws.{NumbersFit, as-they-stand, header-passed, course-passes, item-passes, reading-passes}
 use Rattle.survey.specs.NumberedLaws.{decoded-as-verdict}
-use Rattle.file.specs.FormatLaws.{format48-readable}
 use Rattle.survey.specs.SurveyLaws.{passed-file}
 use Rattle.rewrite.specs.Rewritten.{deadwoodFrom, seamsFrom, offsetOf, coursesWords, deadwoodWords, seamsWords, sectionBytes, headerOf, noSeams, rewritten, mostBytes}
 use Rattle.rewrite.specs.WordLaws.{word-front, word-behind, word-of-part, word-of-zeros, EachSmall, word-of-words}

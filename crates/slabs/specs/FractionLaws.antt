@@ -1,7 +1,6 @@
 -- The order and the sum of fractions are those of what the fractions stand for: a fraction that is at most another and at least it is
 -- the same, whole numbers keep their order and their sum, and sums keep the order. Assumes nothing.
 use Prim.Native.Nat.{ℕ, _+_, _*_, _≤_, _<_}
-use mathlib.Core.Path.{_≡_, ap}
 use native.Mathlib.Nat.{le-antisymm, mul-le-mul-left, mul-pos}
 use native.Mathlib.Omega.{arith}
 use Rattle.slabs.specs.Fraction.{Fraction, whole, _⊕_, _⊑_, _≃_}
@@ -11,9 +10,6 @@ whole-order m n l = omega arith
 
 pub same-both-ways : (a b : Fraction) → a ⊑ b → b ⊑ a → a ≃ b
 same-both-ways a b l m = le-antisymm l m
-
-pub whole-sum : (m n : ℕ) → whole m ⊕ whole n ≡ whole (m + n)
-whole-sum m n = ap whole {x = m * 1 + n * 1} {y = m + n} (omega arith)
 
 pub sums-keep-order : (a b a′ b′ : Fraction) → a ⊑ b → a′ ⊑ b′ → a ⊕ a′ ⊑ b ⊕ b′
 sums-keep-order a b a′ b′ l m =

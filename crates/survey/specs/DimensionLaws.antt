@@ -16,8 +16,7 @@ use Rattle.file.specs.Layout.{kindAt}
 use Rattle.file.specs.Format.{today}
 use Rattle.file.specs.Limits.{largestFile}
 use Rattle.file.specs.Tests.{layoutTests}
-use Rattle.file.specs.FormatLaws.{Readable}
-use Rattle.file.specs.SectionLaws.{placed-file}
+use Rattle.file.specs.SectionLaws.{Readable, placed-file}
 use Rattle.numbers.specs.Tests.{limitTests, correctedTests, numberTests}
 use Rattle.numbers.specs.FitLaws.{LimitsFit, NumbersFit}
 use Rattle.dimensions.specs.Tests.{dimensionTests}

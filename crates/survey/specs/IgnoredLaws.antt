@@ -27,7 +27,7 @@ use Rattle.file.specs.Format.{today}
 use Rattle.file.specs.Layout.{seamHeaderEnd, courseEnd, itemEnd, seamEnd, firstIn, secondIn, lengthIn, thicknessIn, lowIn, highIn, volumeIn, seamNumberIn, seamThicknessIn, seamWidthIn, hasSeams}
 use Rattle.file.specs.Limits.{largestFile}
 use Rattle.file.specs.Section.{courses, deadwood, seamWord, seams, sections, recordAt, endOf, placed, recordLong}
-use Rattle.file.specs.FormatLaws.{Readable, today-readable}
+use Rattle.file.specs.SectionLaws.{Readable, today-readable}
 use Rattle.file.specs.Tests.{countTests, apartTests, placeTests, layoutTests}
 use Rattle.numbers.specs.Item.{itemFrom, itemsOf}
 use Rattle.numbers.specs.Reading.{seamFrom, seamOf, riseOf}

@@ -20,7 +20,7 @@ use Rattle.file.specs.Word.{word}
 use Rattle.file.specs.Layout.{kindAt, dhAt, l1At, l3At}
 use Rattle.file.specs.Format.{today}
 use Rattle.file.specs.Section.{courses}
-use Rattle.file.specs.FormatLaws.{today-readable}
+use Rattle.file.specs.SectionLaws.{today-readable}
 use Rattle.dimensions.specs.declared.dimensions.Sums.{Sums}
 use Rattle.dimensions.specs.Dimensions.{sumsOf, allowance, lengthsFit, d1, d2, diametersFit}
 use Rattle.dimensions.specs.Tests.{dimensionTests}

@@ -24,8 +24,7 @@ use Rattle.file.specs.Layout.{kindAt, dhAt, l3At}
 use Rattle.file.specs.Format.{today}
 use Rattle.file.specs.Limits.{largestFile}
 use Rattle.file.specs.Section.{deadwood}
-use Rattle.file.specs.FormatLaws.{Readable, today-readable}
-use Rattle.file.specs.SectionLaws.{placed-file}
+use Rattle.file.specs.SectionLaws.{Readable, today-readable, placed-file}
 use Rattle.file.specs.Tests.{layoutTests}
 use Rattle.numbers.specs.Tests.{numberTests}
 use Rattle.numbers.specs.Item.{itemsOf}

@@ -1,6 +1,6 @@
 -- `fault::fault::fault_of` meets its contract: today's format can be read. Assumes nothing.
 use mathlib.Core.Path.{_∙_, ap}
-use Rattle.file.specs.FormatLaws.{today-readable}
+use Rattle.file.specs.SectionLaws.{today-readable}
 use Rattle.fault.specs.Fault.{faultAs, faultOf}
 use borrow.Author.Needs.{needs}
 use Rattle.fault.proofs.fault.fault_of.Statement.{statement}

@@ -1,6 +1,6 @@
 -- `fault::fault::fault_of_48` meets its contract: the format can be read. Assumes nothing.
 use mathlib.Core.Path.{_∙_, ap}
-use Rattle.file.specs.FormatLaws.{format48-readable}
+use Rattle.file.specs.SectionLaws.{format48-readable}
 use Rattle.fault.specs.Fault.{faultAs}
 use borrow.Author.Needs.{needs}
 use Rattle.fault.proofs.fault.fault_of_48.Statement.{statement}

@@ -7,7 +7,7 @@ use Rattle.file.specs.declared.format.Format.{Format}
 use Rattle.file.specs.declared.section.Section.{Section}
 use Rattle.file.specs.Format.{format48}
 use Rattle.file.specs.Section.{courses, deadwood}
-use Rattle.file.specs.FormatLaws.{format48-readable}
+use Rattle.file.specs.SectionLaws.{format48-readable}
 use Rattle.rewrite.specs.Rewritten.{sectionBytes, headerOf, noSeams, rewritten}
 use Rattle.rewrite.specs.RewrittenLaws.{accepted-placed, rewritten-fits}
 use borrow.Author.Needs.{needs}

@@ -1,7 +1,7 @@
 -- `survey::decode::decode_48` meets its contract: the format can be read. Assumes nothing.
 use mathlib.Core.Path.{_∙_, ap}
 use Rattle.file.specs.Format.{format48}
-use Rattle.file.specs.FormatLaws.{format48-readable}
+use Rattle.file.specs.SectionLaws.{format48-readable}
 use Rattle.survey.specs.Survey.{decodedAs}
 use Rattle.survey.specs.SurveyLaws.{decoded-as-fits}
 use borrow.Author.Needs.{needs}
