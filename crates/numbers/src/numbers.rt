@@ -1,9 +1,11 @@
 // Refusal 5: every number of the file within its limits as it stands, in the header, then in the sections' records; and then the readings
 // that have lost the tape rise.
 ghost use mathlib.Core.Path.{_≡_};
+ghost use mathlib.Core.List.{[], _∷_};
 ghost use Rattle.refusal.specs.Test.{verdict};
+ghost use Rattle.file.specs.Section.{sections};
 ghost use Rattle.file.specs.SectionLaws.{Readable, Inside, Placed};
-ghost use Rattle.numbers.specs.Tests.{sectionTests, limitTests, numberTests};
+ghost use Rattle.numbers.specs.Tests.{sectionTests, sectionsTests, limitTests, numberTests};
 use crate::header::header_tested;
 use crate::reading::readings_tested;
 use crate::record::record_tested;
@@ -33,19 +35,33 @@ fn section_tested(section: Section, s: &[u8]) -> Verdict
     v
 }
 
+// .. of three sections, one after the other.
+fn sections_tested(x: Section, y: Section, z: Section, s: &[u8]) -> Verdict
+    requires { ⌜ Inside (now s) x × Inside (now s) y × Inside (now s) z ⌝ }
+    ensures { λ r. ⌜ r ≡ verdict (sectionsTests (now (s .entry)) (x ∷ y ∷ z ∷ [])) ⌝ }
+{
+    let of_x = section_tested(x, s);
+    let of_y = section_tested(y, s);
+    let of_z = section_tested(z, s);
+    first_refusal(of_x, first_refusal(of_y, of_z))
+}
+
+// .. of all sections of a file.
+fn records_tested(f: Format, s: &[u8]) -> Verdict
+    requires { ⌜ Readable f × Placed f (now s) ⌝ }
+    ensures { λ r. ⌜ r ≡ verdict (sectionsTests (now (s .entry)) (sections f (now (s .entry)))) ⌝ }
+{
+    sections_tested(courses(f, s), deadwood(f, s), seams(f, s), s)
+}
+
 // All numbers, as they stand, of a file whose sections are well placed.
 pub fn limits_tested(f: Format, s: &[u8]) -> Verdict
     requires { ⌜ Readable f × Placed f (now s) ⌝ }
     ensures { λ r. ⌜ r ≡ verdict (limitTests f (now (s .entry))) ⌝ }
 {
     let header = header_tested(s);
-    let of_courses = section_tested(courses(f, s), s);
-    let of_deadwood = section_tested(deadwood(f, s), s);
-    let of_seams = section_tested(seams(f, s), s);
-    first_refusal(
-        header,
-        first_refusal(of_courses, first_refusal(of_deadwood, of_seams)),
-    )
+    let records = records_tested(f, s);
+    first_refusal(header, records)
 }
 
 // .. and the corrected readings, of a file whose numbers are within their limits.

@@ -3,12 +3,13 @@ ghost use mathlib.Core.Path.{_≡_};
 ghost use Prim.Native.Nat.{_+_, _^_, _≤_, _<_};
 ghost use lib.ListN.{length};
 ghost use Rattle.refusal.specs.Test.{verdict, firstRefusal, within};
+ghost use Rattle.seams.specs.SeamLaws.{SeamFits};
 ghost use Rattle.file.specs.Word.{word};
 ghost use Rattle.file.specs.Layout.{courseEnd, seamEnd};
 ghost use Rattle.file.specs.SectionLaws.{Readable};
 ghost use Rattle.numbers.specs.Limits.{shortestCircumference, longestCircumference};
 ghost use Rattle.numbers.specs.FitLaws.{LimitsFit};
-ghost use Rattle.numbers.specs.Reading.{seamFrom, riseOf, corrected};
+ghost use Rattle.numbers.specs.Reading.{seamFrom, seamOf, riseOf, corrected};
 ghost use Rattle.numbers.specs.Tests.{readingTests, correctedTests};
 use crate::limits::LONGEST_CIRCUMFERENCE;
 use crate::limits::SHORTEST_CIRCUMFERENCE;
@@ -37,17 +38,24 @@ fn seam_from(s: &[u8], at: usize) -> Seam
     }
 }
 
-// The tape rise over the seams of course i.
+// Those of course i.
+fn seam_of(f: Format, s: &[u8], i: usize) -> Seam
+    requires { ⌜ Readable f × LimitsFit f (now s) ⌝ }
+    ensures { λ r. ⌜ (r ≡ seamOf f (now (s .entry)) i) × SeamFits r ⌝ }
+{
+    let x = seams(f, s);
+    if i < x.count {
+        return seam_from(s, record_at(x, i));
+    }
+    Seam::none()
+}
+
+// The tape rise over them.
 pub fn rise_of(f: Format, s: &[u8], i: usize) -> u64
     requires { ⌜ Readable f × LimitsFit f (now s) ⌝ }
     ensures { λ r. ⌜ r ≡ riseOf f (now (s .entry)) i ⌝ }
 {
-    let x = seams(f, s);
-    let dh = word(s, layout::DH);
-    if i < x.count {
-        return tape_rise(seam_from(s, record_at(x, i)), dh);
-    }
-    tape_rise(Seam::none(), dh)
+    tape_rise(seam_of(f, s, i), word(s, layout::DH))
 }
 
 // The reading at a byte less the tape rise.

@@ -5,10 +5,12 @@ ghost use lib.ListN.{length};
 ghost use Rattle.refusal.specs.Test.{verdict, firstRefusal};
 ghost use Rattle.file.specs.Layout.{headerEnd, courseEnd, itemEnd, seamEnd};
 ghost use Rattle.file.specs.Section.{recordLong};
+ghost use Rattle.numbers.specs.Item.{itemFrom};
 ghost use Rattle.numbers.specs.Tests.{courseTests, itemTests, seamTests, recordTests};
 use crate::item::item_from;
 use crate::limits;
 use crate::limits::limit;
+use deadwood::item::Deadwood;
 use file::layout;
 use file::section::Records;
 use file::word::word;
@@ -44,12 +46,11 @@ fn course_tested(so_far: Verdict, s: &[u8], at: usize) -> Verdict
     )
 }
 
-// The verdict so far, and then the numbers of the deadwood item at a byte. Where the heights do not fit, the high one is the bad number.
-fn item_tested(so_far: Verdict, s: &[u8], at: usize) -> Verdict
-    requires { ⌜ (headerEnd ≤ length (now s)) × (at + itemEnd ≤ length (now s)) × (at + itemEnd < 2 ^ 32) ⌝ }
+// The verdict so far, and then the numbers of a deadwood item, that at a byte. Where the heights do not fit, the high one is the bad number.
+fn item_tested(so_far: Verdict, item: Deadwood, s: &[u8], at: usize) -> Verdict
+    requires { ⌜ (headerEnd ≤ length (now s)) × (at + itemEnd < 2 ^ 32) × (item ≡ itemFrom (now s) at) ⌝ }
     ensures { λ r. ⌜ r ≡ firstRefusal «so_far» (verdict (itemTests (now (s .entry)) at)) ⌝ }
 {
-    let item = item_from(s, at);
     let heights = item.heights_fit(word(s, layout::DH));
     let v = next_test(so_far, 5, (at + layout::HIGH_HEIGHT) as u32, heights);
     next_test(v, 5, (at + layout::ITEM_VOLUME) as u32, item.volume_fits())
@@ -72,7 +73,7 @@ pub fn record_tested(records: Records, so_far: Verdict, s: &[u8], at: usize) -> 
 {
     match records {
         Records::Courses => course_tested(so_far, s, at),
-        Records::Deadwood => item_tested(so_far, s, at),
+        Records::Deadwood => item_tested(so_far, item_from(s, at), s, at),
         Records::Seams => seam_tested(so_far, s, at),
     }
 }

@@ -7,6 +7,5 @@ pub mod LimitLaws
 pub mod NumberedLaws
 pub mod IgnoredLaws
 pub mod DimensionLaws
-pub mod LengthsLaws
-pub mod HeadLengthLaws
+pub mod ExactlyLaws
 pub mod ExampleLaws

@@ -40,8 +40,6 @@ tabled-verdict file = go (verdictOn file mostRows) (file .survey) (tableLeft fil
     go (Refused r) v table = refl
 
 pub record Ready (v : Survey) (t : Tabled) : Type 0 where
-  pub dh-is : t .dh ≡ diameterUnits (v .tank .dh)
-  pub step-is : t .step ≡ v .step
   pub step-low : smallestStep ≤ t .step
   pub rows-are : t .rows ≡ rowCount (t .dh) (t .step)
   pub few : t .rows ≤ mostRows
@@ -57,8 +55,6 @@ ready file within is-passed =
     let few = few-rows (diameterUnits (v .tank .dh)) (v .step) (limits .tank .dh-high) (limits .step-low) in
     let front = front-is-table file noRows (rw no-rows-room passed) in
     rw passed (record {
-      dh-is = refl;
-      step-is = refl;
       step-low = limits .step-low;
       rows-are = refl;
       few = few;

@@ -10,8 +10,9 @@ use Rattle.numbers.proofs.record.item_tested.Tie as tie
 returns : tie.Need-returns
 unfolding itemTests
 returns c =
-    let a = c .before .before .before .before .before .before .before .args in
-    let item = c .before .before .before .before .before .item-from .ensures in
+    let start = c .before .before .before .before .before .before in
+    let a = start .args in
+    let item = start .pre .2 in
     rw (
       ← verdict-in-turn (a .so-far) (itemTests (a .s .now) (a .at)),
       ← (c .before .before .before .heights-fit .ensures ∙ ap₂ heightsFit item (c .before .before .before .before .word .ensures)),
@@ -23,6 +24,6 @@ returns c =
 pub item-tested-spec : {M : Type 1} → statement M
 item-tested-spec =
     tie.close
-    (tie.spec (λ c κs. search needs) (λ c κs. search needs) (λ c κs. search needs) (λ c. search needs)
-    (λ c. search needs) (λ c κs. search needs) (λ c. search needs) (λ c. search needs) (λ c κs. search needs)
-    (λ c κs. search needs) returns)
+    (tie.spec (λ c κs. search needs) (λ c κs. search needs) (λ c. search needs) (λ c. search needs)
+    (λ c κs. search needs) (λ c. search needs) (λ c. search needs) (λ c κs. search needs) (λ c κs. search needs)
+    returns)
