@@ -168,31 +168,35 @@ struct milechime_convert_answer {
 struct milechime_convert_answer milechime_convert_48(
     const uint8_t *survey, size_t survey_length);
 
-/* The answer to milechime_words and to milechime_words_48. */
+/* The answer to milechime_words and to milechime_convert_words. */
 struct milechime_words_answer {
     uint32_t length;                 /* bytes of the text, below MILECHIME_MOST_WORDS */
     char text[MILECHIME_MOST_WORDS]; /* ASCII, and 0 behind it */
 };
 
 /*
- * What a refusal by milechime_table is about, in this survey, such as
- * "deadwood item 2, high height 270000 (2,700.00 mm): must be above its low
- * height and at most DH 260000". The refusal and its place are those of the
- * answer, the survey is the same. Courses and deadwood items are counted from
- * 1, rows from 0. Any other number or place, and any other bytes, get words
- * too, which then say nothing of use.
+ * What milechime_table refuses this survey for, in words, where the lent table
+ * has table_length cells, such as "deadwood item 2, high height 270000
+ * (2,700.00 mm): must be above its low height and at most DH 260000". Courses
+ * and deadwood items are counted from 1, rows from 0. There are no words, and
+ * the answer's length is 0, exactly when the survey gets its table. No table
+ * is lent here: table_length may be any number.
  */
 struct milechime_words_answer milechime_words(
     const uint8_t *survey, size_t survey_length,
-    uint32_t refusal, uint32_t place);
+    size_t table_length);
 
 /*
- * The same of a refusal by milechime_convert_48, in the old survey: its words
- * come from here, since milechime_words reads a survey in today's format.
+ * What milechime_convert_48 refuses this old survey for, in words, and none
+ * exactly when it is converted. `header` is the length of the old survey's
+ * header in bytes, and 48 is the only one there is. For any other the words
+ * are those of "old header of 56 bytes: must have 48", with its number,
+ * whatever the survey's bytes: no words are never to be taken for a survey
+ * that could be converted.
  */
-struct milechime_words_answer milechime_words_48(
+struct milechime_words_answer milechime_convert_words(
     const uint8_t *survey, size_t survey_length,
-    uint32_t refusal, uint32_t place);
+    uint32_t header);
 
 #ifdef __cplusplus
 }

@@ -1,6 +1,6 @@
 #!/usr/bin/env bash
-# The rooms are as docs/ARCHITECTURE.md draws them: its 'knows' column is that of crates.txt, and above the file's rooms (`file`, `numbers`,
-# `dimensions`, `survey`) nobody sees a byte but `rewrite`, which writes a file, and `fault`, which says what a refusal is about. Others name a format, which is a
+# The rooms are as docs/ARCHITECTURE.md draws them: its 'knows' column is that of crates.txt, and above the file's rooms (`file`, `form`, `records`, `numbers`,
+# `readings`, `dimensions`, `survey`) nobody sees a byte but `rewrite`, which writes a file. Others name a format, which is a
 # value, the formulas of `dimensions`, which are over numbers, and of `survey` no test. Says what it looked at; a sample that breaks each rule is seen to be found.
 . "$(dirname "$0")/failures.sh"
 
@@ -19,8 +19,8 @@ differing() {
 
 # what reads bytes, cited or called in these folders
 bytes_seen() {
-    grep -rnP 'Rattle·(file\.specs\.(?!Format\.|declared\.format\.Format\.)|numbers\.|dimensions\.specs\.(?!Dimensions\.)|survey\.specs\.Tests\.)' "$@"
-    grep -rnE '^use (file|numbers|dimensions)::' "$@"
+    grep -rnP 'Rattle·(file\.specs\.(?!Format\.|declared\.format\.Format\.)|form\.|records\.|numbers\.|readings\.|dimensions\.specs\.(?!Dimensions\.)|survey\.specs\.Tests\.)' "$@"
+    grep -rnE '^use (file|form|records|numbers|readings|dimensions)::' "$@"
 }
 
 rooms=$(grep -c '^[a-z_]*:' crates.txt)
@@ -28,7 +28,7 @@ files=$(find crates -name '*.rt' -o -name '*.antt' | wc -l)
 found=$(differing docs/ARCHITECTURE.md)
 [ -z "$found" ] || fail "docs/ARCHITECTURE.md and crates.txt differ in: $found"
 # shellcheck disable=SC2046
-found=$(bytes_seen $(ls -d crates/* | grep -vxE 'crates/(file|numbers|dimensions|survey|fault|rewrite)'))
+found=$(bytes_seen $(ls -d crates/* | grep -vxE 'crates/(file|form|records|numbers|readings|dimensions|survey|rewrite)'))
 [ -z "$found" ] || fail "bytes seen above the file's rooms: $found"
 
 # the rules can be broken
@@ -39,8 +39,8 @@ seen() {
     echo "$1" >"$sample/above.rt"
     [ -n "$(bytes_seen "$sample")" ]
 }
-for line in 'use Rattle.file.specs.Word.{word}' 'use Rattle.numbers.specs.Item.{itemFrom}' 'use Rattle.dimensions.specs.Tests.{dimensionTests}' \
-    'use Rattle.survey.specs.Tests.{fileTests}' 'use file::word::word;' 'use numbers::item::item_from;'; do
+for line in 'use Rattle.file.specs.Word.{word}' 'use Rattle.records.specs.Item.{itemFrom}' 'use Rattle.dimensions.specs.Tests.{dimensionTests}' \
+    'use Rattle.survey.specs.Tests.{fileTests}' 'use file::word::word;' 'use records::item::item_from;'; do
     seen "$line" || fail "not found: $line"
 done
 seen 'use Rattle.file.specs.Format.{today}' && fail "a format is taken for a byte"

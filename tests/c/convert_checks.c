@@ -1,9 +1,10 @@
-/* milechime_convert_48 and milechime_words_48: files with a header of 48 bytes
+/* milechime_convert_48 and milechime_convert_words: files with a header of 48 bytes
  * in today's format, byte for byte, their tables, and their refusals. */
 #include "checks.h"
 
 #include "check.h"
 #include "lent.h"
+#include "many.h"
 #include "milechime.h"
 #include "paper.h"
 #include "says.h"
@@ -33,7 +34,7 @@ static void refused(const uint8_t *survey, size_t length, uint32_t refusal, uint
     for (size_t i = 0; i < sizeof a.file; i++)
         empty = empty && a.file[i] == 0;
     check(a.refusal == refusal && a.place == place && empty, words);
-    check(says(milechime_words_48(bytes, length, a.refusal, a.place), words), "and in these words");
+    check(says(milechime_convert_words(bytes, length, 48), words), "and in these words");
 }
 
 /* The old paper survey with one number exchanged. */
@@ -62,6 +63,8 @@ static void converted_paper(void)
     check(number_at(a.file, 48) == 1 && number_at(a.file, 52) == 72, "one record of seams, at byte 72");
     check(memcmp(a.file + 56, old + 48, 16) == 0, "the course is kept");
     check(gives(a, today, PAPER_BYTES), "it is today's paper survey, and every byte behind it is 0");
+    check(says(milechime_convert_words(lent_bytes(old, OLD_PAPER_BYTES), OLD_PAPER_BYTES, 48), ""),
+          "and there are no words: length 0, and a text of zeros");
 
     uint32_t *cells = lent_cells(PAPER_ROWS);
     struct milechime_table_answer t = milechime_table(lent_bytes(a.file, a.length), a.length, cells, PAPER_ROWS);
@@ -100,12 +103,12 @@ static void converted_from_anywhere(void)
     check(t.refusal == 0 && cells[1] == 2796 && cells[2] == 7334 + 500 && cells[5] == 19635 + 1000, "and the deadwood counts in the table");
 }
 
-/* 40 courses and 64 deadwood items, in a file of the most bytes. */
+/* 40 courses and 64 deadwood items, in a file of the most bytes, and in one of a byte more. */
 static void converted_largest(void)
 {
     enum { COURSES = 40, ITEMS = 64 };
     uint8_t plain[PAPER_BYTES];
-    uint8_t *old = calloc(MILECHIME_LARGEST_SURVEY, 1);
+    uint8_t *old = calloc(MILECHIME_LARGEST_SURVEY + 1, 1);
     if (old == NULL)
         exit(2);
     old_paper_survey(old);
@@ -135,12 +138,14 @@ static void converted_largest(void)
           "at bytes 56, 696 and 1464");
     struct milechime_table_answer t = milechime_table(a.file, a.length, lent_cells(PAPER_ROWS), PAPER_ROWS);
     check(t.refusal == 0 && t.rows == PAPER_ROWS, "and give a table");
+    check(says(milechime_convert_words(old, MILECHIME_LARGEST_SURVEY, 48), ""), "and no words");
+    refused(old, MILECHIME_LARGEST_SURVEY + 1, 1, 0, "file of more than 65536 bytes: must have 48 to 65536");
     free(old);
 }
 
 static void refused_files(void)
 {
-    uint8_t survey[OLD_PAPER_BYTES + 12];
+    uint8_t survey[OLD_PAPER_BYTES + ITEM_BYTES];
     old_paper_survey(survey);
     refused(survey, 0, 1, 0, "file of 0 bytes: must have 48 to 65536");
     refused(survey, 47, 1, 0, "file of 47 bytes: must have 48 to 65536");
@@ -153,23 +158,63 @@ static void refused_files(void)
     refused_with(56, 99899, 6, 0, "sum of the course lengths 99899 (998.99 mm): must be 99900 to 100100, "
                                   "the shell length L1 give or take 100 for each course");
     refused_with(4, 60001, 7, 0, "shell diameter D1 50000 (500.00 mm): must be 50000 to 500000 and at most 10000 from DH 60001");
-    put(survey, 40, 1);
-    put(survey, 44, OLD_PAPER_BYTES);
-    put(survey, OLD_PAPER_BYTES, 0);
-    put(survey, OLD_PAPER_BYTES + 4, 10000);
-    put(survey, OLD_PAPER_BYTES + 8, 5000);
-    refused(survey, OLD_PAPER_BYTES + 12, 9, 1,
+    add_deadwood(survey, OLD_PAPER_BYTES, 0, 10000, 5000);
+    refused(survey, OLD_PAPER_BYTES + ITEM_BYTES, 9, 1,
             "row 1 at dip height 10000 (100.00 mm): must not be below the row before; the deadwood is larger than the room there");
 
     converted a = milechime_convert_48(NULL, 0);
     check(a.refusal == 1 && a.place == 0 && a.length == 0, "no file at all: refusal 1");
-    check(says(milechime_words_48(NULL, 0, 1, 0), "file of 0 bytes: must have 48 to 65536"), "and in words");
-    old_paper_survey(survey);
-    check(says(milechime_words_48(survey, OLD_PAPER_BYTES, 5, 6), "refusal 5 at place 6: not one of this survey's"), "a place that no number has");
+    check(says(milechime_convert_words(NULL, 0, 48), "file of 0 bytes: must have 48 to 65536"), "and in words");
 
+    old_paper_survey(survey);
     struct milechime_table_answer t = milechime_table(survey, OLD_PAPER_BYTES, NULL, 0);
     check(t.refusal == 2 && t.place == 0, "an old file that is not converted: refusal 2, as its course stands where the seam count is");
-    check(says(milechime_words(survey, OLD_PAPER_BYTES, 2, 0), "seam count 160221: must be 1, the course count"), "and in words");
+    check(says(milechime_words(survey, OLD_PAPER_BYTES, 0), "seam count 160221: must be 1, the course count"), "and in words");
+}
+
+/* No old survey has a header of this length, whatever its bytes. */
+static void no_such_header(uint32_t header, const char *words)
+{
+    uint8_t survey[OLD_PAPER_BYTES];
+    old_paper_survey(survey);
+    bool told = says(milechime_convert_words(NULL, 0, header), words) &&
+                says(milechime_convert_words(lent_bytes(survey, OLD_PAPER_BYTES), OLD_PAPER_BYTES, header), words);
+    put(survey, 4, 49999);
+    check(told && says(milechime_convert_words(survey, OLD_PAPER_BYTES, header), words), words);
+}
+
+static void other_headers(void)
+{
+    no_such_header(0, "old header of 0 bytes: must have 48");
+    no_such_header(47, "old header of 47 bytes: must have 48");
+    no_such_header(49, "old header of 49 bytes: must have 48");
+    no_such_header(56, "old header of 56 bytes: must have 48");
+    no_such_header(UINT32_MAX, "old header of 4294967295 bytes: must have 48");
+}
+
+static struct asked ask(const uint8_t *survey, size_t survey_length, size_t table_length)
+{
+    (void)table_length; /* an old survey is refused as with room for all rows */
+    converted a = milechime_convert_48(survey, survey_length);
+    return (struct asked){a.refusal, a.place, milechime_convert_words(survey, survey_length, 48)};
+}
+
+/* With flat heads and with caps, both with deadwood. */
+static void many_old_surveys(void)
+{
+    uint8_t surveys[2][OLD_PAPER_BYTES + ITEM_BYTES];
+    old_paper_survey(surveys[0]);
+    old_paper_survey(surveys[1]);
+    put(surveys[1], 0, 2);
+    put(surveys[1], 24, 1000);
+    struct tally tally = nothing_asked();
+    for (size_t i = 0; i < 2; i++) {
+        add_deadwood(surveys[i], OLD_PAPER_BYTES, 10000, 30000, 1000);
+        ask_many(&tally, surveys[i], sizeof surveys[i], 0, ask);
+    }
+    check(tally.exactly, "many old surveys: no words exactly where milechime_convert_48 refuses nothing");
+    check(tally.same, "and else words of the refusal that it gives, of 9 with its row");
+    check(tally.met == (0x2FF | 1u << 14), "each of 1 to 7, 9 and 14 among them, none, and never 8");
 }
 
 void convert_checks(void)
@@ -178,4 +223,6 @@ void convert_checks(void)
     converted_from_anywhere();
     converted_largest();
     refused_files();
+    other_headers();
+    many_old_surveys();
 }

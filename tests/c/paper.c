@@ -38,3 +38,29 @@ void old_paper_survey(uint8_t *survey)
     for (size_t i = 0; i < OLD_PAPER_BYTES / 4; i++)
         put(survey, 4 * i, words[i]);
 }
+
+void with_caps(uint8_t *survey, uint32_t length)
+{
+    paper_survey(survey);
+    put(survey, 0, 2);
+    put(survey, 24, length);
+}
+
+void with_seams(uint8_t *survey, uint32_t first, uint32_t second)
+{
+    paper_survey(survey);
+    put(survey, FIRST_AT, first);
+    put(survey, SECOND_AT, second);
+    put(survey, SEAMS_AT, 3);
+    put(survey, SEAMS_AT + 4, 200);
+    put(survey, SEAMS_AT + 8, 1200);
+}
+
+void add_deadwood(uint8_t *survey, size_t at, uint32_t low, uint32_t high, int32_t volume)
+{
+    put(survey, 40, 1);
+    put(survey, 44, (uint32_t)at);
+    put(survey, at, low);
+    put(survey, at + 4, high);
+    put(survey, at + 8, (uint32_t)volume);
+}

@@ -5,6 +5,7 @@
 #include "check.h"
 #include "milechime.h"
 #include "paper.h"
+#include "says.h"
 
 #include <pthread.h>
 #include <stdio.h>
@@ -17,7 +18,8 @@ static _Alignas(4096) uint8_t stack[STACK];
 static uint8_t *from;
 
 /* What the calls take and answer, apart from the stack. */
-static uint8_t old[OLD_PAPER_BYTES];
+static uint8_t old[OLD_PAPER_BYTES + ITEM_BYTES];
+static uint8_t today[PAPER_BYTES + ITEM_BYTES];
 static struct milechime_convert_answer converted;
 static uint32_t cells[MILECHIME_MOST_ROWS];
 static struct milechime_table_answer table;
@@ -38,6 +40,19 @@ static void widest(void)
         put(old, 48 + 4 * i, course[i]);
 }
 
+/* The same with deadwood that is larger than the room below the last row, in both formats. */
+static void falling(void)
+{
+    memcpy(today, converted.file, PAPER_BYTES);
+    add_deadwood(today, PAPER_BYTES, 490000, 500000, 1000000);
+    add_deadwood(old, OLD_PAPER_BYTES, 490000, 500000, 1000000);
+}
+
+static bool is_last_row(void)
+{
+    return says(words, "row 50 at dip height 500000 (5,000.00 mm): must not be below the row before; the deadwood is larger than the room there");
+}
+
 static void *convert(void *unused)
 {
     from = __builtin_frame_address(0);
@@ -52,17 +67,38 @@ static void *make_table(void *unused)
     return unused;
 }
 
+static void *say_nothing(void *unused)
+{
+    from = __builtin_frame_address(0);
+    words = milechime_words(converted.file, converted.length, MILECHIME_MOST_ROWS);
+    return unused;
+}
+
 static void *say(void *unused)
 {
     from = __builtin_frame_address(0);
-    words = milechime_words(converted.file, converted.length, 5, 4);
+    words = milechime_words(today, sizeof today, MILECHIME_MOST_ROWS);
+    return unused;
+}
+
+static void *say_nothing_old(void *unused)
+{
+    from = __builtin_frame_address(0);
+    words = milechime_convert_words(old, OLD_PAPER_BYTES, 48);
     return unused;
 }
 
 static void *say_old(void *unused)
 {
     from = __builtin_frame_address(0);
-    words = milechime_words_48(old, OLD_PAPER_BYTES, 5, 4);
+    words = milechime_convert_words(old, sizeof old, 48);
+    return unused;
+}
+
+static void *say_other_header(void *unused)
+{
+    from = __builtin_frame_address(0);
+    words = milechime_convert_words(old, sizeof old, UINT32_MAX);
     return unused;
 }
 
@@ -90,6 +126,10 @@ void stack_checks(void)
     widest();
     check(needed(convert) < 64 * KIB && converted.refusal == 0, "milechime_convert_48 needs less than 64 KiB of stack");
     check(needed(make_table) < 64 * KIB && table.refusal == 0, "milechime_table too");
-    check(needed(say) < 64 * KIB && words.length != 0, "milechime_words too");
-    check(needed(say_old) < 64 * KIB && words.length != 0, "milechime_words_48 too");
+    check(needed(say_nothing) < 64 * KIB && words.length == 0, "milechime_words too, where nothing is refused");
+    check(needed(say_nothing_old) < 64 * KIB && words.length == 0, "and milechime_convert_words");
+    falling();
+    check(needed(say) < 64 * KIB && is_last_row(), "milechime_words too, where the last test refuses: that of the last row");
+    check(needed(say_old) < 64 * KIB && is_last_row(), "and milechime_convert_words");
+    check(needed(say_other_header) < 64 * KIB && words.length != 0, "and where there is no such header");
 }

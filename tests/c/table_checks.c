@@ -50,35 +50,11 @@ static void refused_with(size_t at, uint32_t number, uint32_t refusal, uint32_t 
     refused(survey, PAPER_BYTES, refusal, place, what);
 }
 
-/* The paper's survey with one deadwood item behind the seams, at byte 84. */
+/* The paper's survey with one deadwood item behind the seams. */
 static void with_deadwood(uint8_t *survey, uint32_t low, uint32_t high, int32_t volume)
 {
     paper_survey(survey);
-    put(survey, 40, 1);
-    put(survey, 44, PAPER_BYTES);
-    put(survey, PAPER_BYTES, low);
-    put(survey, PAPER_BYTES + 4, high);
-    put(survey, PAPER_BYTES + 8, (uint32_t)volume);
-}
-
-/* The paper's survey with spherical caps of a length, in place of flat heads. */
-static void with_caps(uint8_t *survey, uint32_t length)
-{
-    paper_survey(survey);
-    put(survey, 0, 2);
-    put(survey, 24, length);
-}
-
-/* The paper's survey with other readings of its course, and three seams over which the tape rises by 130: the nearest of
- * 2*3*200*1200/50000 = 28.8, and 101, the root of 64*3*3*200*200*200/(9*50000) = 10240. */
-static void with_seams(uint8_t *survey, uint32_t first, uint32_t second)
-{
-    paper_survey(survey);
-    put(survey, FIRST_AT, first);
-    put(survey, SECOND_AT, second);
-    put(survey, SEAMS_AT, 3);
-    put(survey, SEAMS_AT + 4, 200);
-    put(survey, SEAMS_AT + 8, 1200);
+    add_deadwood(survey, PAPER_BYTES, low, high, volume);
 }
 
 /* The paper's survey with a course that misses L1 by no more than it may: D1 goes by the course's length, the rows by L1. */
@@ -95,8 +71,8 @@ static void missing_course(uint32_t length, const char *what)
 
 static void accepted_surveys(void)
 {
-    enum { MORE = PAPER_ROWS + 5, ITEM_BYTES = PAPER_BYTES + 12 };
-    uint8_t survey[ITEM_BYTES];
+    enum { MORE = PAPER_ROWS + 5, BYTES = PAPER_BYTES + ITEM_BYTES };
+    uint8_t survey[BYTES];
     paper_survey(survey);
 
     uint32_t *cells = lent_cells(PAPER_ROWS);
@@ -128,12 +104,12 @@ static void accepted_surveys(void)
 
     with_deadwood(survey, 10000, 30000, 1000);
     cells = lent_cells(PAPER_ROWS);
-    a = milechime_table(lent_bytes(survey, ITEM_BYTES), ITEM_BYTES, cells, PAPER_ROWS);
+    a = milechime_table(lent_bytes(survey, BYTES), BYTES, cells, PAPER_ROWS);
     check(a.refusal == 0 && cells[1] == 2796 && cells[2] == 7334 - 500 && cells[5] == 19635 - 1000,
           "deadwood takes its share from the rows");
 
     with_deadwood(survey, 0, 10000, 5000);
-    refused(survey, ITEM_BYTES, 9, 1, "deadwood that takes row 1 below zero: refusal 9 at row 1");
+    refused(survey, BYTES, 9, 1, "deadwood that takes row 1 below zero: refusal 9 at row 1");
 }
 
 static void refused_surveys(void)

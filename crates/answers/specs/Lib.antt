@@ -3,3 +3,4 @@ pub mod Numbers
 pub mod Promises
 pub mod RefusalLaws
 pub mod PromiseLaws
+pub mod WordsLaws

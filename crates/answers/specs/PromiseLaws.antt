@@ -53,12 +53,12 @@ module _ (dh step : ℕ) (table : List ℕ) where
   pub number-12 : (h : ℕ) → Exactly (litresNumbers (litresAnswer dh step table h) .refusal ≡ 12) (TooHigh dh step table h)
   unfolding litresAnswer
   number-12 h =
-      above-limit dh step table (λ v. litresNumbers (litresBy v (litres dh step table h)) .refusal ≡ 12) 12 h dh (λ e. omega arith) (λ e. omega arith) refl
+      above-limit dh step table (λ v. litresNumbers (litresBy v (litres dh step table h)) .refusal ≡ 12) 12 _ h dh (λ e. omega arith) (λ e. omega arith) refl
 
   pub number-13 : (w : ℕ) → Exactly (heightNumbers (heightAnswer dh step table w) .refusal ≡ 13) (TooMuch dh step table w)
   unfolding heightAnswer
   number-13 w =
-      above-limit dh step table (λ v. heightNumbers (heightBy v (heightFor dh step table w)) .refusal ≡ 13) 13 w _ (λ e. omega arith) (λ e. omega arith) refl
+      above-limit dh step table (λ v. heightNumbers (heightBy v (heightFor dh step table w)) .refusal ≡ 13) 13 _ w _ (λ e. omega arith) (λ e. omega arith) refl
 
   -- what is promised leaves no other figure
   pub on-table-only : (h : ℕ) (r : LitresNumbers) → r .refusal ≡ 0 → soundTable dh step table ≡ true → h ≤ dh → OnTableAnswered dh step table h r

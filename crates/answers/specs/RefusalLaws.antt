@@ -10,12 +10,13 @@ use Rattle.refusal.specs.declared.Refusal.{Refusal}
 use Rattle.refusal.specs.declared.Verdict.{Verdict}
 use Rattle.refusal.specs.declared.Verdict.the-variants.{Passed, Refused}
 use Rattle.refusal.specs.Test.{Test, verdict, inUse}
-use Rattle.refusal.specs.NumberLaws.{allInUse, each-numbered, verdict-in-use, unused-is-passed}
+use Rattle.sentences.specs.Sentences.{told}
+use Rattle.sentences.specs.KnownLaws.{allKnown, each-known, verdict-known, unused-is-passed}
 use Rattle.file.specs.declared.format.Format.{Format}
 use Rattle.survey.specs.Survey.{decodedAs, decoded}
 use Rattle.file.specs.Format.{format48, today}
 use Rattle.table.specs.Answer.{verdictOn, answerBy, made}
-use Rattle.table.specs.NumberedLaws.{refusal-in-use}
+use Rattle.table.specs.KnownLaws.{refusal-known}
 use Rattle.convert.specs.Converted.{convertedBy, converted}
 use Rattle.lookup.specs.Litres.{litres}
 use Rattle.lookup.specs.Height.{heightFor}
@@ -28,29 +29,32 @@ module _ (n : ℕ) (unused : inUse n ≡ false) where
   -- in use
   module _ (number : Verdict → ℕ) (passed-on : (r : Refusal) → number (Refused r) ≡ r .number) where
     rows-answered : (f : Format) (s : List ℕ) (cells : ℕ) → number (verdictOn (decodedAs f s) cells) ≡ n → verdictOn (decodedAs f s) cells ≡ Passed
-    rows-answered f s cells = unused-is-passed number passed-on n unused (verdictOn (decodedAs f s) cells) (refusal-in-use f s cells)
+    rows-answered f s cells = unused-is-passed number passed-on n unused (verdictOn (decodedAs f s) cells) (refusal-known f s cells)
 
-    tests-answered : (ts : List Test) → allInUse ts ≡ true → number (verdict ts) ≡ n → verdict ts ≡ Passed
-    tests-answered ts all = unused-is-passed number passed-on n unused (verdict ts) (verdict-in-use ts (each-numbered ts all))
+    tests-answered : (ts : List Test) → allKnown ts ≡ true → number (verdict ts) ≡ n → verdict ts ≡ Passed
+    tests-answered ts all = unused-is-passed number passed-on n unused (verdict ts) (verdict-known ts (each-known ts all))
 
   pub table-answered : (s : List ℕ) (cells : ℕ) → tableNumbers (made (decoded s) cells) .refusal ≡ n → verdictOn (decoded s) cells ≡ Passed
   unfolding made decoded
   table-answered s cells = rows-answered (λ w. tableNumbers (answerBy w (decoded s .survey)) .refusal) (λ r. refl) today s cells
 
+  pub convert-accepted : (s : List ℕ) → convertedNumbers (converted s) .refusal ≡ n → verdictOn (decodedAs format48 s) mostRows ≡ Passed
+  unfolding converted
+  convert-accepted s = rows-answered (λ w. convertedNumbers (convertedBy w s) .refusal) (λ r. refl) format48 s mostRows
+
   pub convert-answered : (s : List ℕ) → convertedNumbers (converted s) .refusal ≡ n → converted s .verdict ≡ Passed
   unfolding converted
-  convert-answered s e =
-      ap (λ w. convertedBy w s .verdict) (rows-answered (λ w. convertedNumbers (convertedBy w s) .refusal) (λ r. refl) format48 s mostRows e)
+  convert-answered s e = ap (λ w. convertedBy w s .verdict) (convert-accepted s e)
 
   pub litres-answered : (dh step : ℕ) (rows : List ℕ) (h : ℕ) → litresNumbers (litresAnswer dh step rows h) .refusal ≡ n
       → verdict (litresTests dh step rows h) ≡ Passed
-  unfolding litresAnswer
+  unfolding litresAnswer told
   litres-answered dh step rows h =
       tests-answered (λ v. litresNumbers (litresBy v (litres dh step rows h)) .refusal) (λ r. refl) (litresTests dh step rows h) refl
 
   pub height-answered : (dh step : ℕ) (rows : List ℕ) (w : ℕ) → heightNumbers (heightAnswer dh step rows w) .refusal ≡ n
       → verdict (heightTests dh step rows w) ≡ Passed
-  unfolding heightAnswer
+  unfolding heightAnswer told
   height-answered dh step rows w =
       tests-answered (λ v. heightNumbers (heightBy v (heightFor dh step rows w)) .refusal) (λ r. refl) (heightTests dh step rows w) refl
 

@@ -54,9 +54,9 @@ pub fn table_numbers(answer: Made) -> TableNumbers
             d2: d2.units(),
             rows,
         },
-        Made::Refused(r) => TableNumbers {
-            refusal: r.number,
-            place: r.place,
+        Made::Refused(number, place) => TableNumbers {
+            refusal: number,
+            place,
             d1: 0,
             d2: 0,
             rows: 0,

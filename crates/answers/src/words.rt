@@ -1,10 +1,11 @@
 // A refusal in words, laid out as C lays it out.
 ghost use mathlib.Core.Path.{_≡_};
 ghost use Prim.Native.Nat.{_<_};
-ghost use Rattle.wording.specs.Sentences.{faultSize};
-ghost use Rattle.answers.specs.Numbers.{wordsOf};
-use fault::fault::Fault;
-use wording::put_words;
+ghost use Rattle.sentences.specs.Sentences.{wordsSize};
+ghost use Rattle.answers.specs.Numbers.{wordsAbout, wordsOf};
+use refusal::About;
+use refusal::Verdict;
+use sentences::put_words;
 
 // The words of a refusal: the first `length` bytes of the text; behind them it is 0, and at least one byte is.
 #[repr(C)]
@@ -13,14 +14,32 @@ pub struct Words {
     pub text: [u8; 256],
 }
 
-pub fn in_words(fault: Fault) -> Words
-    ensures { λ r. ⌜ r ≡ wordsOf fault ⌝ }
-    ensures { λ r. ⌜ r .length < faultSize ⌝ }
+// What a test is about.
+pub fn words_about(about: About) -> Words
+    ensures { λ r. ⌜ r ≡ wordsAbout about ⌝ }
+    ensures { λ r. ⌜ r .length < wordsSize ⌝ }
 {
     let mut text = [0u8; 256];
-    let length = put_words(&mut text, 0, fault);
+    let length = put_words(&mut text, 0, about);
     Words {
         length: length as u32,
         text,
+    }
+}
+
+// The words of a verdict; none where nothing is refused.
+pub fn in_words(verdict: Verdict) -> Words
+    ensures { λ r. ⌜ r ≡ wordsOf verdict ⌝ }
+    ensures { λ r. ⌜ r .length < wordsSize ⌝ }
+{
+    match verdict {
+        Verdict::Passed => Words {
+            length: 0,
+            text: [0u8; 256],
+        },
+        Verdict::Refused(r) => {
+            let about = r.about;
+            words_about(about)
+        }
     }
 }

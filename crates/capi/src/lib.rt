@@ -7,14 +7,13 @@ ghost use lib.ListN.{length};
 ghost use Rattle.laws.specs.Exactly.{Exactly};
 ghost use Rattle.file.specs.Format.{format48};
 ghost use Rattle.survey.specs.Survey.{decoded};
-ghost use Rattle.fault.specs.Fault.{faultAs, faultOf};
 ghost use Rattle.rewrite.specs.Rewritten.{mostBytes};
-ghost use Rattle.table.specs.Answer.{made, tableLeft};
+ghost use Rattle.table.specs.Answer.{verdictOn, made, tableLeft};
 ghost use Rattle.table.specs.Condition3.{NetRowAt, Condition3At};
 ghost use Rattle.convert.specs.Converted.{converted};
 ghost use Rattle.lookup.specs.Answer.{litresAnswer, TooHigh, heightAnswer, TooMuch};
-ghost use Rattle.wording.specs.Sentences.{faultSize};
-ghost use Rattle.answers.specs.Numbers.{tableNumbers, litresNumbers, heightNumbers, convertedNumbers, wordsOf};
+ghost use Rattle.sentences.specs.Sentences.{wordsSize};
+ghost use Rattle.answers.specs.Numbers.{tableNumbers, litresNumbers, heightNumbers, convertedNumbers, wordsOf, conversionWords};
 ghost use Rattle.answers.specs.Promises.{EveryCounted, OnTableAnswered, LowestAnswered, ConvertedKeeps};
 use answers::numbers::ConvertedNumbers;
 use answers::numbers::HeightNumbers;
@@ -26,13 +25,19 @@ use answers::numbers::litres_numbers;
 use answers::numbers::table_numbers;
 use answers::words::Words;
 use answers::words::in_words;
+use answers::words::words_about;
 use convert::convert_48;
-use fault::fault::fault_of;
-use fault::fault::fault_of_48;
 use lookup::height::height_for;
 use lookup::litres::litres_at;
 use measure::dip_height::DipHeight;
 use measure::volume::Volume;
+use refusal::about_of;
+use schedule::MOST_ROWS;
+use sentences::OF_OLD_HEADER;
+use survey::decode::OLD_HEADER;
+use survey::decode::decode;
+use survey::decode::decode_48;
+use table::judge::judged;
 use table::make::make_table;
 
 // The table of a survey, from the start of the lent table; a refusal leaves it as it was.
@@ -76,20 +81,27 @@ pub extern "C" fn milechime_convert_48(survey: &[u8]) -> ConvertedNumbers
     converted_numbers(convert_48(survey))
 }
 
-// What a refusal of a survey's table is about, in words.
+// The words of the refusal that making a table with so much room would give; none where nothing is refused.
 #[no_mangle]
-pub extern "C" fn milechime_words(survey: &[u8], refusal: u32, place: u32) -> Words
-    ensures { λ r. ⌜ r ≡ wordsOf (faultOf (now (survey .entry)) refusal place) ⌝ }
-    ensures { λ r. ⌜ r .length < faultSize ⌝ }
+pub extern "C" fn milechime_words(survey: &[u8], table_length: usize) -> Words
+    ensures { λ r. ⌜ r ≡ wordsOf (verdictOn (decoded (now (survey .entry))) «table_length») ⌝ }
+    ensures { λ r. ⌜ r .length < wordsSize ⌝ }
+    ensures { λ r. ⌜ Exactly (r .length ≡ 0) (tableNumbers (made (decoded (now (survey .entry))) «table_length») .refusal ≡ 0) ⌝ }
 {
-    in_words(fault_of(survey, refusal, place))
+    in_words(judged(decode(survey), table_length))
 }
 
-// .. and what a refusal to convert an old survey is about.
+// .. of the refusal that converting an old survey, whose header has so many bytes, would give. No length but 48 can be converted from, and
+// words say so.
 #[no_mangle]
-pub extern "C" fn milechime_words_48(survey: &[u8], refusal: u32, place: u32) -> Words
-    ensures { λ r. ⌜ r ≡ wordsOf (faultAs format48 (now (survey .entry)) refusal place) ⌝ }
-    ensures { λ r. ⌜ r .length < faultSize ⌝ }
+pub extern "C" fn milechime_convert_words(survey: &[u8], header: u32) -> Words
+    ensures { λ r. ⌜ r ≡ conversionWords header (now (survey .entry)) ⌝ }
+    ensures { λ r. ⌜ r .length < wordsSize ⌝ }
+    ensures { λ r. ⌜ Exactly (r .length ≡ 0) ((header ≡ format48 .header) × (convertedNumbers (converted (now (survey .entry))) .refusal ≡ 0)) ⌝ }
 {
-    in_words(fault_of_48(survey, refusal, place))
+    let old = OLD_HEADER as u32;
+    if header == old {
+        return in_words(judged(decode_48(survey), MOST_ROWS));
+    }
+    words_about(about_of(OF_OLD_HEADER, 0, header as u64, 0, old))
 }

@@ -11,6 +11,7 @@ use refusal::Refusal;
 use refusal::Verdict;
 use rewrite::rewritten::MOST_BYTES;
 use rewrite::rewritten::put_rewritten;
+use schedule::MOST_ROWS;
 use survey::decode::decode_48;
 use table::judge::judged;
 
@@ -49,7 +50,7 @@ pub fn convert_48(survey: &[u8]) -> Converted
     ensures { λ r. ⌜ r ≡ converted (now (survey .entry)) ⌝ }
     ensures { λ r. ⌜ Keeps (now (survey .entry)) r ⌝ }
 {
-    let verdict = judged(decode_48(survey));
+    let verdict = judged(decode_48(survey), MOST_ROWS);
     match verdict {
         Verdict::Refused(r) => refused(r),
         Verdict::Passed => written(survey),

@@ -5,21 +5,15 @@ use Prim.Native.Nat.{ℕ, zero, suc, _+_, _*_, _-_}
 use mathlib.Core.Bool.{Bool, _&&_}
 use mathlib.Core.List.{List}
 use Rattle.laws.specs.Nearest.{nearest}
-use Rattle.laws.specs.Order.{pick}
 use Rattle.measure.specs.Diameter.{smallest, largest}
 use Rattle.measure.specs.Pi.{piOver, piUnder}
-use Rattle.measure.specs.Quantity.{diameter, diameterUnits}
-use Rattle.refusal.specs.Test.{refusal, within, near}
-use Rattle.heads.specs.declared.kind.HeadKind.{HeadKind}
-use Rattle.heads.specs.Length.{fitsDiameter}
+use Rattle.refusal.specs.Test.{within, near}
 use Rattle.file.specs.declared.format.Format.{Format}
 use Rattle.file.specs.Word.{word}
 use Rattle.file.specs.Layout.{leftAt, rightAt, firstIn, secondIn, lengthIn, thicknessIn}
 use Rattle.file.specs.Section.{courses, recordAt}
-use Rattle.numbers.specs.Reading.{riseOf, corrected}
+use Rattle.readings.specs.Reading.{riseOf, corrected}
 use Rattle.dimensions.specs.declared.dimensions.Sums.{Sums}
-use Rattle.dimensions.specs.declared.dimensions.Dimensions.{Dimensions}
-use Rattle.dimensions.specs.declared.dimensions.Dimensions.the-variants.{Found, Refused}
 
 -- how far the course lengths together may lie from L1, for each course
 abbrev pub courseAllowance : ℕ
@@ -58,14 +52,10 @@ sumsOver f s (suc n) = added (sumsOver f s n) (sumOf s (recordAt (courses f s) n
 abbrev pub sumsOf : Format → List ℕ → Sums
 sumsOf f s = sumsOver f s (courses f s .count)
 
--- how far the lengths may lie from L1: readings are good to 0.5 mm, so honest lengths seldom add up to it (document 02, E1)
+-- how far the lengths may lie from L1: readings are good to 0.5 mm, so honest lengths seldom add up to it (document 02, E1). What is weighted
+-- by length goes by their sum, and the shell is L1 long
 abbrev pub allowance : Sums → ℕ
 allowance t = courseAllowance * t .count
-
--- refusal 6 is not given: the lengths' sum and L1 differ by no more, either way. What is weighted by length goes by the sum, and the shell
--- is L1 long
-unfoldable pub lengthsFit : Sums → ℕ → Bool
-lengthsFit t l1 = near (t .lengths) l1 (allowance t)
 
 -- of readings in pairs, weighted by lengths: 113·W / (710·ΣL), to the nearest
 unfoldable pub outerDiameter : (readings lengths : ℕ) → ℕ
@@ -95,16 +85,3 @@ d2 f s = headDiameter (sumsOf f s) (word s leftAt) (word s rightAt)
 -- a diameter within its limits and not far from DH
 unfoldable pub diameterFits : (d dh : ℕ) → Bool
 diameterFits d dh = near d dh farthest && within smallest d largest
-
--- refusal 7 is not given
-abbrev pub diametersFit : (dh d1 d2 : ℕ) → Bool
-diametersFit dh d1 d2 = diameterFits d1 dh && diameterFits d2 dh
-
--- DH, D1 and D2 where both fit, else refusal 7
-abbrev pub dimensions : (dh d1 d2 : ℕ) → Dimensions
-dimensions dh d1 d2 = pick (diametersFit dh d1 d2) (Found (diameter dh) (diameter d1) (diameter d2)) (Refused (refusal 7 0))
-
--- what was found, and then refusal 14, where D2 does not allow the length of one head
-abbrev pub headsTested : HeadKind → ℕ → Dimensions → Dimensions
-headsTested kind l3 (Found dh d1 d2) = pick (fitsDiameter kind (diameterUnits d2) l3) (Found dh d1 d2) (Refused (refusal 14 0))
-headsTested kind l3 (Refused r) = Refused r

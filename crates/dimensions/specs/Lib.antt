@@ -2,6 +2,7 @@
 -- thicker than its tube.
 pub mod Dimensions
 pub mod Tests
+pub mod TestLaws
 pub mod Judged
 pub mod JudgedLaws
 pub mod SumLaws

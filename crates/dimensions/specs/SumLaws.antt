@@ -13,9 +13,10 @@ use Rattle.file.specs.Layout.{leftAt, rightAt, firstIn, secondIn}
 use Rattle.file.specs.Limits.{mostCourses}
 use Rattle.file.specs.Section.{courses, recordAt}
 use Rattle.numbers.specs.Limits.{longestCircumference, thickest}
-use Rattle.numbers.specs.Reading.{riseOf, corrected}
-use Rattle.numbers.specs.CourseLaws.{CourseFits, CoursesFit}
-use Rattle.numbers.specs.FitLaws.{NumbersFit, as-they-stand, ends-fit, courses-fit}
+use Rattle.readings.specs.Reading.{riseOf, corrected}
+use Rattle.readings.specs.CourseLaws.{CourseFits, CoursesFit}
+use Rattle.readings.specs.FitLaws.{NumbersFit, as-they-stand, courses-fit}
+use Rattle.numbers.specs.FitLaws.{ends-fit}
 use Rattle.dimensions.specs.declared.dimensions.Sums.{Sums}
 use Rattle.dimensions.specs.Dimensions.{sumOf, sumsOver, sumsOf, outerDiameter, shellDiameter, headDiameter, d1, d2}
 

@@ -12,9 +12,10 @@ use Rattle.file.specs.Word.{word}
 use Rattle.file.specs.Layout.{leftAt, rightAt, firstIn, secondIn, lengthIn}
 use Rattle.file.specs.Section.{courses, recordAt}
 use Rattle.numbers.specs.Limits.{shortestCircumference, thickest}
-use Rattle.numbers.specs.Reading.{riseOf, corrected}
-use Rattle.numbers.specs.CourseLaws.{CourseFits, CoursesFit}
-use Rattle.numbers.specs.FitLaws.{NumbersFit, as-they-stand, courses-fit, ends-fit}
+use Rattle.readings.specs.Reading.{riseOf, corrected}
+use Rattle.readings.specs.CourseLaws.{CourseFits, CoursesFit}
+use Rattle.readings.specs.FitLaws.{NumbersFit, as-they-stand, courses-fit}
+use Rattle.numbers.specs.FitLaws.{ends-fit}
 use Rattle.dimensions.specs.Dimensions.{sumOf, sumsOver, sumsOf, outerDiameter, wall, shellDiameter, headDiameter, d1, d2}
 use Rattle.dimensions.specs.SumLaws.{file-sums}
 

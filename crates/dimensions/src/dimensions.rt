@@ -1,18 +1,22 @@
 // The sums over the courses, and D1 and D2 made of them.
 ghost use mathlib.Core.Path.{_≡_};
+ghost use mathlib.Core.List.{[], _∷_};
 ghost use Prim.Native.Nat.{_+_, _*_, _^_, _≤_, _<_};
 ghost use lib.ListN.{length};
 ghost use Rattle.laws.specs.Order.{pick};
 ghost use Rattle.measure.specs.Diameter.{smallest, largest};
 ghost use Rattle.measure.specs.Pi.{piUnder};
 ghost use Rattle.measure.specs.Quantity.{diameter};
+ghost use Rattle.refusal.specs.Test.{verdict, refusalOf};
 ghost use Rattle.tank.specs.Limits.{longestShell};
 ghost use Rattle.file.specs.Limits.{mostCourses};
 ghost use Rattle.file.specs.Layout.{courseEnd};
 ghost use Rattle.file.specs.SectionLaws.{Readable};
-ghost use Rattle.numbers.specs.CourseLaws.{CourseFits};
-ghost use Rattle.numbers.specs.FitLaws.{NumbersFit};
-ghost use Rattle.dimensions.specs.Dimensions.{sumOf, added, sumsOf, allowance, lengthsFit, outerDiameter, wall, shellDiameter, headDiameter, diameterFits, dimensions, headsTested};
+ghost use Rattle.readings.specs.CourseLaws.{CourseFits};
+ghost use Rattle.readings.specs.FitLaws.{NumbersFit};
+ghost use Rattle.dimensions.specs.Dimensions.{sumOf, added, sumsOf, allowance, outerDiameter, wall, shellDiameter, headDiameter, diameterFits};
+ghost use Rattle.dimensions.specs.Tests.{lengthsTest, diameterTest, diameterTests};
+ghost use Rattle.dimensions.specs.Judged.{judgedWith, headsTested};
 ghost use Rattle.dimensions.specs.SumLaws.{SumsSmall};
 use arith::less::less;
 use arith::nearest::nearest_quotient;
@@ -27,10 +31,17 @@ use measure::diameter::Diameter;
 use measure::diameter::Measured;
 use measure::pi::PI_OVER;
 use measure::pi::PI_UNDER;
-use numbers::reading::corrected_at;
-use numbers::reading::rise_of;
+use readings::reading::corrected_at;
+use readings::reading::rise_of;
 use refusal::Refusal;
+use refusal::Verdict;
+use refusal::about_of;
 use refusal::limits::is_near;
+use refusal::next_limited;
+use sentences::OF_HEAD_DIAMETER;
+use sentences::OF_HEAD_LENGTH;
+use sentences::OF_LENGTHS;
+use sentences::OF_SHELL_DIAMETER;
 
 // How far the course lengths together may lie from L1, for each course.
 const COURSE_ALLOWANCE: u64 = 100;
@@ -83,7 +94,7 @@ fn add(t: Sums, u: Sums) -> Sums
 }
 
 // Over all courses of a file that passes refusals 1 to 5.
-pub fn file_sums(f: Format, s: &[u8]) -> Sums
+pub(crate) fn file_sums(f: Format, s: &[u8]) -> Sums
     requires { ⌜ Readable f × NumbersFit f (now s) ⌝ }
     ensures { λ r. ⌜ r ≡ sumsOf f (now (s .entry)) ⌝ }
     ensures { λ r. ⌜ SumsSmall r × (1 ≤ r .lengths) × (1 ≤ r .count) ⌝ }
@@ -105,19 +116,29 @@ pub fn file_sums(f: Format, s: &[u8]) -> Sums
 }
 
 // How far the lengths may lie from L1.
-pub fn allowance(t: Sums) -> u64
+fn allowance(t: Sums) -> u64
     requires { ⌜ SumsSmall t ⌝ }
     ensures { λ r. ⌜ r ≡ allowance t ⌝ }
 {
     COURSE_ALLOWANCE * t.count
 }
 
-// Whether the lengths are as near to L1 as that.
-pub fn lengths_fit(t: Sums, l1: u32) -> bool
-    requires { ⌜ SumsSmall t ⌝ }
-    ensures { λ r. ⌜ r ≡ lengthsFit t l1 ⌝ }
+// Refusal 6: whether the lengths are as near to L1 as that.
+pub(crate) fn lengths_tested(t: Sums, l1: u32) -> Verdict
+    requires { ⌜ SumsSmall t × (allowance t ≤ l1) × (l1 + allowance t < 2 ^ 32) ⌝ }
+    ensures { λ r. ⌜ r ≡ verdict (lengthsTest t l1 ∷ []) ⌝ }
 {
-    is_near(t.lengths, l1 as u64, allowance(t))
+    let most = allowance(t) as u32;
+    next_limited(
+        Verdict::Passed,
+        6,
+        0,
+        OF_LENGTHS,
+        0,
+        l1 - most,
+        t.lengths,
+        l1 + most,
+    )
 }
 
 // Of circumferences, in pairs, weighted by lengths.
@@ -137,7 +158,7 @@ fn wall(t: Sums) -> u64
 }
 
 // D1, from the courses.
-pub fn shell_diameter(t: Sums) -> u64
+pub(crate) fn shell_diameter(t: Sums) -> u64
     requires { ⌜ SumsSmall t × (1 ≤ t .lengths) × (1 ≤ t .count) ⌝ }
     ensures { λ r. ⌜ r ≡ shellDiameter t ⌝ }
 {
@@ -145,7 +166,7 @@ pub fn shell_diameter(t: Sums) -> u64
 }
 
 // D2, of flange and head, from the circumferences at the shell's ends.
-pub fn head_diameter(t: Sums, left: u32, right: u32) -> u64
+pub(crate) fn head_diameter(t: Sums, left: u32, right: u32) -> u64
     requires { ⌜ SumsSmall t × (1 ≤ t .count) ⌝ }
     ensures { λ r. ⌜ r ≡ headDiameter t left right ⌝ }
 {
@@ -153,7 +174,7 @@ pub fn head_diameter(t: Sums, left: u32, right: u32) -> u64
 }
 
 // The diameter of so many u, where it is within its limits and not far from DH.
-pub fn fitting(d: u64, dh: u32) -> Measured
+fn fitting(d: u64, dh: u32) -> Measured
     ensures { λ r. ⌜ r ≡ pick (diameterFits d dh) (Measured.Within (diameter d)) Measured.Outside ⌝ }
 {
     if !is_near(d, dh as u64, FARTHEST) {
@@ -162,29 +183,38 @@ pub fn fitting(d: u64, dh: u32) -> Measured
     Diameter::of(d)
 }
 
-// DH, D1 and D2; DH is within its limits.
-pub fn diameters(t: Sums, left: u32, right: u32, dh: u32) -> Dimensions
-    requires { ⌜ SumsSmall t × (1 ≤ t .lengths) × (1 ≤ t .count) × (smallest ≤ dh) × (dh ≤ largest) ⌝ }
-    ensures { λ r. ⌜ r ≡ dimensions dh (shellDiameter t) (headDiameter t left right) ⌝ }
+// Refusal 7 of a diameter, which is compared with DH.
+fn unfit(sentence: u32, dh: u32, d: u64) -> Dimensions
+    requires { ⌜ d < 2 ^ 63 ⌝ }
+    ensures { λ r. ⌜ r ≡ Dimensions.Refused (refusalOf (diameterTest sentence dh d)) ⌝ }
 {
-    let unfit = Dimensions::Refused(Refusal {
+    let about = about_of(sentence, dh, d, Diameter::SMALLEST, Diameter::LARGEST);
+    Dimensions::Refused(Refusal {
         number: 7,
         place: 0,
-    });
-    let Measured::Within(d1) = fitting(shell_diameter(t), dh) else {
-        return unfit;
+        about,
+    })
+}
+
+// DH, D1 and D2; DH is within its limits.
+pub(crate) fn diameters(d1: u64, d2: u64, dh: u32) -> Dimensions
+    requires { ⌜ (d1 < 2 ^ 63) × (d2 < 2 ^ 63) × (smallest ≤ dh) × (dh ≤ largest) ⌝ }
+    ensures { λ r. ⌜ r ≡ judgedWith (verdict (diameterTests dh d1 d2)) dh d1 d2 ⌝ }
+{
+    let Measured::Within(shell) = fitting(d1, dh) else {
+        return unfit(OF_SHELL_DIAMETER, dh, d1);
     };
-    let Measured::Within(d2) = fitting(head_diameter(t, left, right), dh) else {
-        return unfit;
+    let Measured::Within(heads) = fitting(d2, dh) else {
+        return unfit(OF_HEAD_DIAMETER, dh, d2);
     };
     let Measured::Within(dip_point) = Diameter::of(dh as u64) else {
-        return unfit;
+        return unfit(OF_HEAD_DIAMETER, dh, d2);
     };
-    Dimensions::Found(dip_point, d1, d2)
+    Dimensions::Found(dip_point, shell, heads)
 }
 
 // What was found, and then refusal 14, where D2 does not allow the length of one head.
-pub fn heads_tested(found: Dimensions, kind: HeadKind, l3: u32) -> Dimensions
+pub(crate) fn heads_tested(found: Dimensions, kind: HeadKind, l3: u32) -> Dimensions
     ensures { λ r. ⌜ r ≡ headsTested kind l3 «found» ⌝ }
 {
     let Dimensions::Found(_, _, d2) = found else {
@@ -193,8 +223,10 @@ pub fn heads_tested(found: Dimensions, kind: HeadKind, l3: u32) -> Dimensions
     if fits_diameter(kind, d2, l3) {
         return found;
     }
+    let d = d2.units();
     Dimensions::Refused(Refusal {
         number: 14,
         place: 0,
+        about: about_of(OF_HEAD_LENGTH, d, l3 as u64, 0, d / 2),
     })
 }

@@ -10,19 +10,14 @@ use lib.Dec.{leb}
 use lib.ListN.{length}
 use borrow.Author.Tests.{leb-true, ne-eqb}
 use Rattle.laws.specs.BoolLaws.{both-pass}
-use Rattle.refusal.specs.declared.Verdict.the-variants.{Passed}
-use Rattle.refusal.specs.Test.{verdict, within}
-use Rattle.refusal.specs.TestLaws.{passed-all, within-pass}
-use Rattle.deadwood.specs.Item.{mostItems}
 use Rattle.file.specs.declared.format.Format.{Format}
 use Rattle.file.specs.declared.section.Section.{Section}
 use Rattle.file.specs.declared.section.Records.{Records}
 use Rattle.file.specs.declared.section.Records.the-variants.{Courses, Deadwood, Seams}
 use Rattle.file.specs.Layout.{headerEnd, seamHeaderEnd, courseEnd, itemEnd, seamEnd}
 use Rattle.file.specs.Format.{formatOf, format48, today}
-use Rattle.file.specs.Limits.{largestFile, mostCourses}
-use Rattle.file.specs.Section.{courses, deadwood, seams, recordAt, endOf, placed, recordLong}
-use Rattle.file.specs.Tests.{layoutTests}
+use Rattle.file.specs.Limits.{largestFile}
+use Rattle.file.specs.Section.{deadwood, recordAt, endOf, placed, recordLong}
 
 -- a bound on the length of a record
 abbrev pub longestRecord : ℕ
@@ -90,36 +85,3 @@ placed-inside header fileSize x h i l =
     let some = ne-eqb (x .count) 0 (λ e. omega arith) in
     let halves = both-pass (leb header (x .offset)) (leb (endOf x) fileSize) (rw some at h) in
     (leb-true header (x .offset) (halves .0), omega (arith, mul-le-mul-left (x .size) one-more, leb-true (endOf x) fileSize (halves .1)))
-
-pub record Placed (f : Format) (s : List ℕ) : Type 0 where
-  pub header : f .header ≤ length s
-  pub courses-inside : Inside s (courses f s)
-  pub deadwood-inside : Inside s (deadwood f s)
-  pub seams-inside : Inside s (seams f s)
-  pub someCourse : 1 ≤ courses f s .count
-  pub fewCourses : courses f s .count ≤ mostCourses
-  pub fewItems : deadwood f s .count ≤ mostItems
-
-pub placed-file : (f : Format) (s : List ℕ) → Readable f → within (f .header) (length s) largestFile ≡ true → verdict (layoutTests f s) ≡ Passed → Placed f s
-unfolding layoutTests
-placed-file f s readable size passed =
-    let file = within-pass (f .header) (length s) largestFile size in
-    let pass = passed-all (layoutTests f s) passed in
-    let courses-count = within-pass 1 (courses f s .count) mostCourses (pass .0) in
-    let inside : (x : Section) → recordLong (x .records) ≤ x .size → placed (f .header) (length s) x ≡ true → Inside s x =
-    λ x long there. record {
-      header = omega (arith, readable .header, file .0);
-      file = file .1;
-      long = long;
-      inside = λ i l. placed-inside (f .header) (length s) x there i l .1;
-    } in
-    let places = pass .1 .1 .1 in
-    record {
-      header = file .0;
-      courses-inside = inside (courses f s) (readable .course) (places .0);
-      deadwood-inside = inside (deadwood f s) (readable .deadwood) (places .1 .1 .1 .0);
-      seams-inside = inside (seams f s) (readable .seam) (places .1 .1 .1 .1 .1 .0);
-      someCourse = courses-count .0;
-      fewCourses = courses-count .1;
-      fewItems = within-pass 0 (deadwood f s .count) mostItems (pass .1 .0) .1;
-    }

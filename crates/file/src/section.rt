@@ -2,13 +2,11 @@
 ghost use mathlib.Core.Path.{_≡_};
 ghost use Prim.Native.Nat.{_+_, _^_, _≤_, _<_};
 ghost use lib.ListN.{length};
-ghost use Rattle.refusal.specs.Test.{within};
 ghost use Rattle.file.specs.Section.{sectionAt, courses, deadwood, seams, seamItems, recordAt, placed, apart};
 ghost use Rattle.file.specs.SectionLaws.{longestRecord, Readable, Small};
 use crate::format::Format;
 use crate::layout;
 use crate::word::word;
-use refusal::limits::is_within;
 
 pub enum Records {
     Courses,
@@ -83,13 +81,6 @@ pub fn record_at(x: Section, i: usize) -> usize
     ensures { λ r. ⌜ r ≡ recordAt x i ⌝ }
 {
     x.offset + x.size * i
-}
-
-// A section has so many records.
-pub fn count_fits(fewest: usize, x: Section, most: usize) -> bool
-    ensures { λ r. ⌜ r ≡ within fewest (x .count) most ⌝ }
-{
-    is_within(fewest as u64, x.count as u64, most as u64)
 }
 
 // Behind the header and inside the file; an empty section's offset is not looked at.

@@ -1,6 +1,6 @@
 -- The limits of the inner length of one head, in u, by its kind (document 01, 'The survey file', byte 24). Assumes nothing.
 use Prim.Native.Nat.{ℕ, _*_}
-use mathlib.Core.Bool.{Bool, true, _&&_}
+use mathlib.Core.Bool.{Bool, true}
 use lib.Dec.{leb}
 use Rattle.heads.specs.declared.kind.HeadKind.{HeadKind}
 use Rattle.heads.specs.declared.kind.HeadKind.the-variants.{Flat, HalfEllipsoid, SphericalCap}
@@ -20,9 +20,6 @@ abbrev pub longestOf : HeadKind → ℕ
 longestOf Flat = 0
 longestOf HalfEllipsoid = longest
 longestOf SphericalCap = longest
-
-unfoldable pub lengthFits : HeadKind → ℕ → Bool
-lengthFits kind l = leb (shortestOf kind) l && leb l (longestOf kind)
 
 -- refusal 14 (document 02, E2): a spherical cap is at most half as long as its diameter; to the other kinds the diameter is no limit
 abbrev pub fitsDiameter : HeadKind → (d l : ℕ) → Bool

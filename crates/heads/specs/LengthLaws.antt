@@ -3,12 +3,10 @@ use Prim.Native.Nat.{ℕ, _*_, _≤_}
 use mathlib.Core.Path.{_≡_}
 use mathlib.Core.Bool.{true}
 use native.Mathlib.Omega.{arith}
-use lib.Dec.{leb}
 use borrow.Author.Tests.{leb-true}
-use Rattle.laws.specs.BoolLaws.{both-pass}
 use Rattle.heads.specs.declared.kind.HeadKind.{HeadKind}
 use Rattle.heads.specs.declared.kind.HeadKind.the-variants.{Flat, HalfEllipsoid, SphericalCap}
-use Rattle.heads.specs.Length.{longest, shortestOf, longestOf, lengthFits, fitsDiameter}
+use Rattle.heads.specs.Length.{longest, shortestOf, longestOf, fitsDiameter}
 
 pub record HeadLimits (kind : HeadKind) (d l : ℕ) : Type 0 where
   pub low : shortestOf kind ≤ l
@@ -21,12 +19,8 @@ longest-of-all Flat = omega arith
 longest-of-all HalfEllipsoid = omega arith
 longest-of-all SphericalCap = omega arith
 
-pub within-limits : (kind : HeadKind) (d l : ℕ) → lengthFits kind l ≡ true → fitsDiameter kind d l ≡ true → HeadLimits kind d l
-unfolding lengthFits
-within-limits kind d l length fits =
-    let (low, high) = both-pass (leb (shortestOf kind) l) (leb l (longestOf kind)) length in
-    let most = longest-of-all kind in
-    record { low = leb-true (shortestOf kind) l low; high = omega (arith, leb-true l (longestOf kind) high); fits = fits }
+pub within-limits : (kind : HeadKind) (d l : ℕ) → shortestOf kind ≤ l → l ≤ longestOf kind → fitsDiameter kind d l ≡ true → HeadLimits kind d l
+within-limits kind d l low high fits = record { low = low; high = omega (arith, longest-of-all kind); fits = fits }
 
 -- a spherical cap is at most half as long as its diameter
 pub cap-limits : (d l : ℕ) → HeadLimits SphericalCap d l → 2 * l ≤ d

@@ -1,7 +1,7 @@
 // The inner length of one head, by its kind.
 ghost use mathlib.Core.Path.{_≡_};
 ghost use Rattle.measure.specs.Quantity.{diameterUnits};
-ghost use Rattle.heads.specs.Length.{shortestOf, longestOf, lengthFits, fitsDiameter};
+ghost use Rattle.heads.specs.Length.{shortestOf, longestOf, fitsDiameter};
 use crate::kind::HeadKind;
 use measure::diameter::Diameter;
 
@@ -30,14 +30,7 @@ pub fn longest_of(kind: HeadKind) -> u32
     }
 }
 
-// Whether a length is one that the kind allows.
-pub fn length_fits(kind: HeadKind, l: u32) -> bool
-    ensures { λ r. ⌜ r ≡ lengthFits kind l ⌝ }
-{
-    shortest_of(kind) <= l && l <= longest_of(kind)
-}
-
-// Whether it is one that the diameter allows, once that is known.
+// Whether a length is one that the diameter allows, once that is known.
 pub fn fits_diameter(kind: HeadKind, d: Diameter, l: u32) -> bool
     ensures { λ r. ⌜ r ≡ fitsDiameter kind (diameterUnits d) l ⌝ }
 {

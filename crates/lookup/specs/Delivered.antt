@@ -3,7 +3,9 @@
 use Prim.Native.Nat.{ℕ}
 use mathlib.Core.Path.{_≡_}
 use mathlib.Core.List.{List}
+use lib.Dec.{ltb}
 use lib.IntN.{ℤ, pos, _+ℤ_, _-ℤ_}
+use Rattle.laws.specs.Order.{pick}
 use Rattle.measure.specs.Quantity.{volumeUnits}
 use Rattle.lookup.specs.declared.litres.LitresAnswer.{LitresAnswer}
 use Rattle.lookup.specs.declared.litres.LitresAnswer.the-variants as litresAnswers
@@ -19,6 +21,10 @@ deliveredBy (litresAnswers.Litres a) (litresAnswers.Litres b) = deliveredAnswers
 
 unfoldable pub deliveredAnswer : (dh step : ℕ) (table : List ℕ) (before after : ℕ) → DeliveredAnswer
 deliveredAnswer dh step table before after = deliveredBy (litresAnswer dh step table before) (litresAnswer dh step table after)
+
+-- of two heights the first that is above DH, if one is
+abbrev pub higher : (dh before after : ℕ) → ℕ
+higher dh before after = pick (ltb dh before) before after
 
 -- d more at the second height than at the first: volumes a and b stand on the table at the two heights, and a + d = b
 pub record Difference (dh step : ℕ) (table : List ℕ) (before after : ℕ) (d : ℤ) : Type 0 where

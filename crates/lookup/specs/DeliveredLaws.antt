@@ -5,7 +5,7 @@ use mathlib.Core.Path.{_≡_, refl, sym, _∙_, ap}
 use mathlib.Core.Bool.{true}
 use mathlib.Core.List.{List}
 use native.Mathlib.Omega.{arith}
-use borrow.Author.Tests.{le-leb, lt-leb, leb-true, leb-false}
+use borrow.Author.Tests.{le-leb, lt-leb, le-ltb, lt-ltb, leb-true, leb-false}
 use lib.Dec.{leb}
 use lib.IntN.{ℤ, pos, negℤ, _+ℤ_, _-ℤ_, +ℤ-assoc, +ℤ-comm, +ℤ-invr, negℤ-negℤ, negℤ-+ℤ, +ℤ-negℤ-cancel, -ℤ-+ℤ-cancel}
 use lib.Signed.{nonNeg}
@@ -24,9 +24,9 @@ use Rattle.lookup.specs.Table.{soundTable}
 use Rattle.lookup.specs.TableLaws.{sound}
 use Rattle.lookup.specs.Litres.{litres}
 use Rattle.lookup.specs.LitresLaws.{litres-mono, never-falls-only}
-use Rattle.lookup.specs.Answer.{litresTests, litresAnswer, ReadOff, TooHigh}
-use Rattle.lookup.specs.AnswerLaws.{read-off, refused-above}
-use Rattle.lookup.specs.Delivered.{deliveredBy, deliveredAnswer, ReadOffBoth}
+use Rattle.lookup.specs.Answer.{tooHigh, litresAnswer, ReadOff, TooHigh}
+use Rattle.lookup.specs.AnswerLaws.{upTo, read-off, refused-above}
+use Rattle.lookup.specs.Delivered.{deliveredBy, deliveredAnswer, ReadOffBoth, higher}
 
 -- ---- differences
 
@@ -45,7 +45,7 @@ taken-off y d z e = sym (+ℤ-negℤ-cancel d y) ∙ ap (λ w. w -ℤ y) (+ℤ-c
 not-below-zero : (m n : ℕ) → m ≤ n → nonNeg (pos n -ℤ pos m) ≡ true
 not-below-zero m n l = rw (minus n m, difference-up n m (n - m) (omega arith))
 
--- ---- the two tests as one, of the higher height
+-- ---- the two tests as one: of the higher height, about the first that is above DH
 
 abbrev differenceBy : Verdict → ℤ → DeliveredAnswer
 differenceBy Passed d = DeliveredAnswer.Litres d
@@ -69,7 +69,8 @@ module _ (dh step : ℕ) (table : List ℕ) where
   gain before after = held after -ℤ held before
 
   by-higher : (before after : ℕ)
-      → deliveredAnswer dh step table before after ≡ differenceBy (verdict (litresTests dh step table (max before after))) (gain before after)
+      → deliveredAnswer dh step table before after
+      ≡ differenceBy (verdict (upTo dh step table 12 (tooHigh (higher dh before after) dh) (max before after) dh)) (gain before after)
   unfolding deliveredAnswer litresAnswer
   by-higher before after =
       by-test (soundTable dh step table)
@@ -79,8 +80,8 @@ module _ (dh step : ℕ) (table : List ℕ) where
       let first = leb-true before dh f in
       by-test (leb after dh)
       (λ g. let second = leb-true after dh g in rw (s, f, g, le-leb (max before after) dh (omega arith)))
-      (λ g. let second = leb-false after dh g in rw (s, f, g, lt-leb (max before after) dh (omega arith))))
-      (λ f. let first = leb-false before dh f in rw (s, f, lt-leb (max before after) dh (omega arith))))
+      (λ g. let second = leb-false after dh g in rw (s, f, g, lt-leb (max before after) dh (omega arith), le-ltb dh before first)))
+      (λ f. let first = leb-false before dh f in rw (s, f, lt-leb (max before after) dh (omega arith), lt-ltb dh before first)))
       (λ s. rw s)
 
   -- between heights up to DH the difference is answered
@@ -147,15 +148,17 @@ module _ (dh step : ℕ) (table : List ℕ) where
       (read-off dh step table before) (read-off dh step table after)
 
   refused-either : (before after : ℕ)
-      → Exactly (deliveredAnswer dh step table before after ≡ DeliveredAnswer.Refused (refusal 12 0)) (TooHigh dh step table (max before after))
+      → Exactly (deliveredAnswer dh step table before after ≡ DeliveredAnswer.Refused (refusal 12 0 (tooHigh (higher dh before after) dh)))
+      (TooHigh dh step table (max before after))
   refused-either before after =
       rw (by-higher before after)
-      (refused-above dh step table (λ v. differenceBy v (gain before after)) deliveredRefusal refl (λ r. refl) 12 (max before after) dh (omega arith))
+      (refused-above dh step table (λ v. differenceBy v (gain before after)) deliveredRefusal refl (λ r. refl) 12 _ (max before after) dh (omega arith))
 
   -- so the answer alone tells all that a lookup promises
   pub delivered-told : (before after : ℕ) {r : DeliveredAnswer} → r ≡ deliveredAnswer dh step table before after
       → (r ≡ deliveredAnswer dh step table before after)
-      × (ReadOffBoth dh step table before after r × Exactly (r ≡ DeliveredAnswer.Refused (refusal 12 0)) (TooHigh dh step table (max before after)))
+      × (ReadOffBoth dh step table before after r
+      × Exactly (r ≡ DeliveredAnswer.Refused (refusal 12 0 (tooHigh (higher dh before after) dh))) (TooHigh dh step table (max before after)))
   delivered-told before after e = (e, rw e (read-off-both before after, refused-either before after))
 
   -- and what is promised leaves no other answer

@@ -1,6 +1,6 @@
 -- A table that a lookup takes (document 01, refusal 11): DH and step within their limits, exactly the row count, and no row below
 -- the row before. Whoever made it. Assumes nothing.
-use Prim.Native.Nat.{ℕ, zero, suc}
+use Prim.Native.Nat.{ℕ, zero, suc, _-_}
 use mathlib.Core.Bool.{Bool, true, _&&_}
 use mathlib.Core.List.{List}
 use lib.Dec.{leb, eqb}
@@ -13,6 +13,10 @@ use Rattle.schedule.specs.Rows.{rowCount, smallestStep, largestStep}
 -- row i of a table
 abbrev pub row : List ℕ → ℕ → ℕ
 row table i = getD table i 0
+
+-- the row at DH
+abbrev pub lastRow : (dh step : ℕ) → List ℕ → ℕ
+lastRow dh step table = row table (rowCount dh step - 1)
 
 -- row i is not below the row before
 abbrev pub keepsUp : List ℕ → ℕ → Bool

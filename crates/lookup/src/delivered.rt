@@ -4,8 +4,8 @@ ghost use Prim.Native.Nat.{max};
 ghost use Rattle.laws.specs.Exactly.{Exactly};
 ghost use Rattle.measure.specs.Quantity.{dipUnits};
 ghost use Rattle.refusal.specs.Test.{refusal};
-ghost use Rattle.lookup.specs.Answer.{TooHigh};
-ghost use Rattle.lookup.specs.Delivered.{deliveredBy, deliveredAnswer, ReadOffBoth};
+ghost use Rattle.lookup.specs.Answer.{tooHigh, TooHigh};
+ghost use Rattle.lookup.specs.Delivered.{deliveredBy, deliveredAnswer, ReadOffBoth, higher};
 use crate::litres::LitresAnswer;
 use crate::litres::litres_at;
 use arith::signed::minus;
@@ -34,7 +34,7 @@ fn second_less_first(first: LitresAnswer, second: LitresAnswer) -> DeliveredAnsw
 }
 
 // On any table, between any two heights: the whole answer; of litres, that they are the difference of two volumes on the table, at these
-// heights; and that refusal 12 is given exactly when the higher of the two is above DH.
+// heights; and that refusal 12, about the first of them that is above DH, is given exactly when the higher of the two is.
 pub fn delivered(
     dh: u32,
     step: u32,
@@ -44,7 +44,7 @@ pub fn delivered(
 ) -> DeliveredAnswer
     ensures { λ r. ⌜ r ≡ deliveredAnswer dh step (now (table .entry)) (dipUnits before) (dipUnits after) ⌝ }
     ensures { λ r. ⌜ ReadOffBoth dh step (now (table .entry)) (dipUnits before) (dipUnits after) r ⌝ }
-    ensures { λ r. ⌜ Exactly (r ≡ DeliveredAnswer.Refused (refusal 12 0)) (TooHigh dh step (now (table .entry)) (max (dipUnits before) (dipUnits after))) ⌝ }
+    ensures { λ r. ⌜ Exactly (r ≡ DeliveredAnswer.Refused (refusal 12 0 (tooHigh (higher dh (dipUnits before) (dipUnits after)) dh))) (TooHigh dh step (now (table .entry)) (max (dipUnits before) (dipUnits after))) ⌝ }
 {
     second_less_first(
         litres_at(dh, step, table, before),

@@ -3,4 +3,5 @@ pub mod delivered;
 pub mod height;
 mod line;
 pub mod litres;
+mod refusals;
 mod table;

@@ -1,8 +1,6 @@
--- What a file that passes refusals 1 to 5 promises of its numbers, as plain facts: first what it does where all of them are within their
--- limits as they stand, then where the corrected readings are too. Assumes nothing.
+-- What a file whose numbers are all within their limits as they stand promises of them, as plain facts. Assumes nothing.
 use Prim.Native.Nat.{ℕ, _+_, _≤_, _<_}
 use mathlib.Core.Path.{_≡_}
-use mathlib.Core.Bool.{true}
 use mathlib.Core.List.{List, [], _++_}
 use native.Mathlib.Omega.{arith}
 use lib.IntN.{natAbs}
@@ -19,7 +17,7 @@ use Rattle.deadwood.specs.ItemLaws.{item-fits}
 use Rattle.deadwood.specs.ListLaws.{DeadwoodLimits}
 use Rattle.schedule.specs.Rows.{smallestStep, largestStep}
 use Rattle.heads.specs.Kind.{kindOf}
-use Rattle.heads.specs.Length.{lengthFits}
+use Rattle.heads.specs.Length.{shortestOf, longestOf}
 use Rattle.tank.specs.Limits.{longestShell, longestFlange}
 use Rattle.seams.specs.Seam.{mostSeams, thickestSeam, widestSeam}
 use Rattle.seams.specs.SeamLaws.{SeamFits}
@@ -27,25 +25,16 @@ use Rattle.file.specs.declared.format.Format.{Format}
 use Rattle.file.specs.Word.{word}
 use Rattle.file.specs.Layout.{kindAt, dhAt, l1At, leftAt, rightAt, l2At, l3At, stepAt, seamNumberIn, seamThicknessIn, seamWidthIn, seamEnd}
 use Rattle.file.specs.Section.{courses, deadwood, seams, sections, recordAt}
-use Rattle.file.specs.SectionLaws.{Placed}
+use Rattle.form.specs.PlacedLaws.{Placed}
 use Rattle.numbers.specs.Limits.{shortestCircumference, longestCircumference, shortestShell}
-use Rattle.numbers.specs.Item.{itemFrom, itemsOf}
-use Rattle.numbers.specs.Reading.{seamFrom, riseOf}
-use Rattle.numbers.specs.CourseLaws.{CoursesFit, course-fits}
-use Rattle.numbers.specs.Tests.{headerTests, courseTests, itemTests, seamTests, sectionTests, sectionsTests, limitTests, readingTests, correctedTests, numberTests}
+use Rattle.records.specs.Item.{itemFrom, itemsOf, seamFrom}
+use Rattle.records.specs.Record.{recordOf}
+use Rattle.numbers.specs.Tests.{headerTests, courseTests, itemTests, seamTests, sectionTests, sectionsTests, limitTests}
 
 -- a file whose numbers are all within their limits as they stand
 pub record LimitsFit (f : Format) (s : List ℕ) : Type 0 where
   pub placed : Placed f s
   pub limits : verdict (limitTests f s) ≡ Passed
-
--- .. and that passes refusals 1 to 5
-pub record NumbersFit (f : Format) (s : List ℕ) : Type 0 where
-  pub placed : Placed f s
-  pub numbers : verdict (numberTests f s) ≡ Passed
-
-pub as-they-stand : (f : Format) (s : List ℕ) → NumbersFit f s → LimitsFit f s
-as-they-stand f s fit = record { placed = fit .placed; limits = passed-append (limitTests f s) (correctedTests f s) (fit .numbers) .0 }
 
 module _ (f : Format) (s : List ℕ) (fit : LimitsFit f s) where
   pub header-passed : verdict (headerTests s) ≡ Passed
@@ -60,15 +49,15 @@ module _ (f : Format) (s : List ℕ) (fit : LimitsFit f s) where
       let of-deadwood = passed-append (sectionTests s (deadwood f s)) (sectionTests s (seams f s) ++ []) (of-courses .1) in
       (of-courses .0, of-deadwood .0, passed-append (sectionTests s (seams f s)) [] (of-deadwood .1) .0)
 
-  pub course-passes : (i : ℕ) → i < courses f s .count → verdict (courseTests s (recordAt (courses f s) i)) ≡ Passed
-  course-passes i l = passed-items (courses f s .count) (λ k. courseTests s (recordAt (courses f s) k)) (sections-passed .0) i l
+  pub course-passes : (i : ℕ) → i < courses f s .count → verdict (courseTests s (recordOf (courses f s) i)) ≡ Passed
+  course-passes i l = passed-items (courses f s .count) (λ k. courseTests s (recordOf (courses f s) k)) (sections-passed .0) i l
 
   -- the item whose record is number i
   listed : ℕ → Deadwood
   listed i = itemFrom s (recordAt (deadwood f s) i)
 
-  pub item-passes : (i : ℕ) → i < deadwood f s .count → verdict (itemTests s (recordAt (deadwood f s) i)) ≡ Passed
-  item-passes i l = passed-items (deadwood f s .count) (λ k. itemTests s (recordAt (deadwood f s) k)) (sections-passed .1) i l
+  pub item-passes : (i : ℕ) → i < deadwood f s .count → verdict (itemTests s (recordOf (deadwood f s) i)) ≡ Passed
+  item-passes i l = passed-items (deadwood f s .count) (λ k. itemTests s (recordOf (deadwood f s) k)) (sections-passed .1) i l
 
   pub items-fit : DeadwoodLimits (itemsOf f s)
   unfolding itemTests listed
@@ -90,7 +79,7 @@ module _ (f : Format) (s : List ℕ) (fit : LimitsFit f s) where
       fits : (i : ℕ) → i < deadwood f s .count
           → (dipUnits (listed i .low) < dipUnits (listed i .high)) × (dipUnits (listed i .high) ≤ word s dhAt) × (natAbs (listed i .volume) ≤ largestVolume)
       fits i l =
-          let pass = passed-all (itemTests s (recordAt (deadwood f s) i)) (item-passes i l) in
+          let pass = passed-all (itemTests s (recordOf (deadwood f s) i)) (item-passes i l) in
           item-fits (listed i) (word s dhAt) (pass .0) (pass .1 .0)
 
   -- a seam item lies inside the file, and within its limits
@@ -102,7 +91,7 @@ module _ (f : Format) (s : List ℕ) (fit : LimitsFit f s) where
     unfolding seamTests
     seam-from-fits =
         let at = recordAt (seams f s) i in
-        let pass = passed-all (seamTests s at) (passed-items (seams f s .count) (λ k. seamTests s (recordAt (seams f s) k)) (sections-passed .2) i l) in
+        let pass = passed-all (seamTests s (recordOf (seams f s) i)) (passed-items (seams f s .count) (λ k. seamTests s (recordOf (seams f s) k)) (sections-passed .2) i l) in
         record {
           few = within-pass 0 (word s (at + seamNumberIn)) mostSeams (pass .0) .1;
           thin = within-pass 0 (word s (at + seamThicknessIn)) thickestSeam (pass .1 .0) .1;
@@ -133,9 +122,11 @@ module _ (f : Format) (s : List ℕ) (fit : LimitsFit f s) where
   unfolding headerTests
   shell-fits = within-pass shortestShell (word s l1At) longestShell (passed-all (headerTests s) header-passed .1 .0)
 
-  pub head-length-fits : lengthFits (kindOf (word s kindAt)) (word s l3At) ≡ true
+  pub head-length-fits : (shortestOf (kindOf (word s kindAt)) ≤ word s l3At) × (word s l3At ≤ longestOf (kindOf (word s kindAt)))
   unfolding headerTests
-  head-length-fits = passed-all (headerTests s) header-passed .1 .1 .1 .1 .1 .0
+  head-length-fits =
+      let kind = kindOf (word s kindAt) in
+      within-pass (shortestOf kind) (word s l3At) (longestOf kind) (passed-all (headerTests s) header-passed .1 .1 .1 .1 .1 .0)
 
   pub lengths-fit : (word s l1At ≤ longestShell) × (word s l2At ≤ longestFlange)
   unfolding headerTests
@@ -144,12 +135,3 @@ module _ (f : Format) (s : List ℕ) (fit : LimitsFit f s) where
         shell-fits .1,
         within-pass 0 (word s l2At) longestFlange (pass .1 .1 .1 .1 .0) .1,
       )
-
-module _ (f : Format) (s : List ℕ) (fit : NumbersFit f s) where
-  pub reading-passes : (i : ℕ) → i < courses f s .count → verdict (readingTests s (recordAt (courses f s) i) (riseOf f s i)) ≡ Passed
-  reading-passes i l =
-      passed-items (courses f s .count) (λ k. readingTests s (recordAt (courses f s) k) (riseOf f s k))
-      (passed-append (limitTests f s) (correctedTests f s) (fit .numbers) .1) i l
-
-  pub courses-fit : CoursesFit f s
-  courses-fit i l = course-fits s (recordAt (courses f s) i) (riseOf f s i) (course-passes f s (as-they-stand f s fit) i l) (reading-passes i l)

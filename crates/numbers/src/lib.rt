@@ -1,7 +1,5 @@
-// The numbers of a survey file: their limits, deadwood items, readings less the tape rise, and refusal 5.
+// The numbers of a survey file: their limits, and refusal 5 of every number as it stands.
 mod header;
-pub mod item;
 pub mod limits;
 pub mod numbers;
-pub mod reading;
-mod record;
+mod record_tests;

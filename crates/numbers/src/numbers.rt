@@ -1,20 +1,19 @@
-// Refusal 5: every number of the file within its limits as it stands, in the header, then in the sections' records; and then the readings
-// that have lost the tape rise.
+// Refusal 5: every number of the file within its limits as it stands, in the header, then in the sections' records.
 ghost use mathlib.Core.Path.{_≡_};
 ghost use mathlib.Core.List.{[], _∷_};
 ghost use Rattle.refusal.specs.Test.{verdict};
 ghost use Rattle.file.specs.Section.{sections};
-ghost use Rattle.file.specs.SectionLaws.{Readable, Inside, Placed};
-ghost use Rattle.numbers.specs.Tests.{sectionTests, sectionsTests, limitTests, numberTests};
+ghost use Rattle.file.specs.SectionLaws.{Readable, Inside};
+ghost use Rattle.form.specs.PlacedLaws.{Placed};
+ghost use Rattle.numbers.specs.Tests.{sectionTests, sectionsTests, limitTests};
 use crate::header::header_tested;
-use crate::reading::readings_tested;
-use crate::record::record_tested;
+use crate::record_tests::record_tested;
 use file::format::Format;
 use file::section::Section;
 use file::section::courses;
 use file::section::deadwood;
-use file::section::record_at;
 use file::section::seams;
+use records::record::record_of;
 use refusal::Verdict;
 use refusal::first_refusal;
 
@@ -29,7 +28,7 @@ fn section_tested(section: Section, s: &[u8]) -> Verdict
     let mut v = Verdict::Passed;
     let mut i: usize = 0;
     while i < count {
-        v = record_tested(records, v, s, record_at(x, i));
+        v = record_tested(records, v, s, record_of(x, i));
         i += 1;
     }
     v
@@ -62,16 +61,4 @@ pub fn limits_tested(f: Format, s: &[u8]) -> Verdict
     let header = header_tested(s);
     let records = records_tested(f, s);
     first_refusal(header, records)
-}
-
-// .. and the corrected readings, of a file whose numbers are within their limits.
-pub fn numbers_tested(f: Format, s: &[u8]) -> Verdict
-    requires { ⌜ Readable f × Placed f (now s) ⌝ }
-    ensures { λ r. ⌜ r ≡ verdict (numberTests f (now (s .entry))) ⌝ }
-{
-    let v = limits_tested(f, s);
-    match v {
-        Verdict::Refused(r) => Verdict::Refused(r),
-        Verdict::Passed => readings_tested(f, s),
-    }
 }

@@ -16,15 +16,15 @@ use Rattle.laws.specs.Exactly.{Exactly}
 use Rattle.refusal.specs.declared.Refusal.{Refusal}
 use Rattle.refusal.specs.declared.Verdict.{Verdict}
 use Rattle.refusal.specs.declared.Verdict.the-variants.{Passed, Refused}
-use Rattle.refusal.specs.Test.{Test, test, refusal, verdict, items, within, near, firstRefusal}
+use Rattle.refusal.specs.Test.{Test, test, refusalOf, verdict, items, within, near, firstRefusal}
 
 pub verdict-append : (ts us : List Test) → verdict (ts ++ us) ≡ firstRefusal (verdict ts) (verdict us)
 verdict-append [] us = refl
 verdict-append (t ∷ ts) us = go (t .passes) (verdict-append ts us)
   where
     go : (b : Bool) → verdict (ts ++ us) ≡ firstRefusal (verdict ts) (verdict us)
-        → pick b (verdict (ts ++ us)) (Refused (refusal (t .number) (t .place)))
-        ≡ firstRefusal (pick b (verdict ts) (Refused (refusal (t .number) (t .place)))) (verdict us)
+        → pick b (verdict (ts ++ us)) (Refused (refusalOf t))
+        ≡ firstRefusal (pick b (verdict ts) (Refused (refusalOf t))) (verdict us)
     go true e = e
     go false e = refl
 
@@ -66,7 +66,7 @@ AllPass (t ∷ ts) = (t .passes ≡ true) × AllPass ts
 pub passed-all : (ts : List Test) → verdict ts ≡ Passed → AllPass ts
 passed-all [] e = tt
 passed-all (t ∷ ts) e =
-    let both = passed-pick (t .passes) (verdict ts) (refusal (t .number) (t .place)) e in
+    let both = passed-pick (t .passes) (verdict ts) (refusalOf t) e in
     (both .0, passed-all ts (both .1))
 
 pub passed-both : (v w : Verdict) → firstRefusal v w ≡ Passed → (v ≡ Passed) × (w ≡ Passed)
@@ -87,12 +87,11 @@ passed-items (suc n) f e i h =
 
 -- of two tests, what the second's refusal says of an answer that neither passing nor the first's refusal says: it is said exactly when the
 -- first passes and the second does not
-pub second-refused : (P : Verdict → Type 0) (first second place place′ : ℕ)
-    → (P Passed → ⊥) → (P (Refused (refusal first place)) → ⊥) → P (Refused (refusal second place′)) → (a b : Bool)
-    → Exactly (P (verdict (test first place a ∷ test second place′ b ∷ []))) ((a ≡ true) × (b ≡ false))
-second-refused P first second place place′ p q r true true = record { only-when = λ h. absurd (p h); whenever = λ h. absurd (true-not-false (h .1)) }
-second-refused P first second place place′ p q r true false = record { only-when = λ h. (refl, refl); whenever = λ h. r }
-second-refused P first second place place′ p q r false b = record { only-when = λ h. absurd (q h); whenever = λ h. absurd (true-not-false (sym (h .0))) }
+pub second-refused : (P : Verdict → Type 0) (r r′ : Refusal) → (P Passed → ⊥) → (P (Refused r) → ⊥) → P (Refused r′) → (a b : Bool)
+    → Exactly (P (verdict (test (r .number) (r .place) a (r .about) ∷ test (r′ .number) (r′ .place) b (r′ .about) ∷ []))) ((a ≡ true) × (b ≡ false))
+second-refused P r r′ p q h true true = record { only-when = λ e. absurd (p e); whenever = λ e. absurd (true-not-false (e .1)) }
+second-refused P r r′ p q h true false = record { only-when = λ e. (refl, refl); whenever = λ e. h }
+second-refused P r r′ p q h false b = record { only-when = λ e. absurd (q e); whenever = λ e. absurd (true-not-false (sym (e .0))) }
 
 -- what tests that pass say of numbers
 

@@ -1,19 +1,5 @@
-// What the programs say, put into lent memory, a text for standard output and one for standard error: the whole of what they print follows
-// from the survey's bytes and the figures that they are asked for.
+// What the programs say, put into lent memory: the whole of what they print follows from the survey's bytes and the figures that they are
+// asked for.
 pub mod conversion;
 pub mod lookups;
-mod refused;
 pub mod table;
-
-// Room for the text of a whole table, for the line of a lookup's answer, and for what is said on standard error.
-pub const OUT_SIZE: usize = 131_072;
-
-pub const LINE_SIZE: usize = 32;
-
-pub const ERR_SIZE: usize = 256;
-
-// How many bytes each of the two texts has.
-pub struct Said {
-    pub out: usize,
-    pub err: usize,
-}

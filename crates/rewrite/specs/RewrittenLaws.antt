@@ -12,7 +12,7 @@ use lib.Seq.{length-take-le}
 use Rattle.laws.specs.BoolLaws.{true-not-false, by-test}
 use Rattle.refusal.specs.declared.Verdict.the-variants.{Passed}
 use Rattle.refusal.specs.Test.{Test, verdict, within}
-use Rattle.refusal.specs.TestLaws.{verdict-append, passed-pick, passed-all, passed-append, all-passed}
+use Rattle.refusal.specs.TestLaws.{verdict-append, all-passed}
 use Rattle.heads.specs.Kind.{kindKnown}
 use Rattle.deadwood.specs.Item.{mostItems}
 use Rattle.seams.specs.Seam.{noSeam}
@@ -23,15 +23,20 @@ use Rattle.file.specs.Layout.{kindAt, dhAt, coursesAt, courseEnd, itemEnd, seam
 use Rattle.file.specs.Format.{format48, today}
 use Rattle.file.specs.Limits.{largestFile, mostCourses}
 use Rattle.file.specs.Section.{courses, deadwood, seams, sections, recordAt, endOf, placed, apart}
-use Rattle.file.specs.SectionLaws.{format48-readable, Inside, Placed}
-use Rattle.numbers.specs.Reading.{seamOf, riseOf}
-use Rattle.file.specs.Tests.{layoutTests}
-use Rattle.numbers.specs.Tests.{headerTests, courseTests, itemTests, seamTests, sectionTests, sectionsTests, limitTests, readingTests, correctedTests, numberTests}
+use Rattle.file.specs.SectionLaws.{format48-readable, Inside}
+use Rattle.form.specs.PlacedLaws.{Placed}
+use Rattle.readings.specs.Reading.{seamOf, riseOf}
+use Rattle.form.specs.Tests.{sizeTests, layoutTests}
+use Rattle.records.specs.Record.{recordOf}
+use Rattle.numbers.specs.Tests.{headerTests, courseTests, itemTests, seamTests, sectionTests, sectionsTests, limitTests}
+use Rattle.readings.specs.Tests.{readingTests, correctedTests, numberTests}
 use Rattle.dimensions.specs.Tests.{dimensionTests}
 use Rattle.survey.specs.Tests.{fileTests}
 use Rattle.survey.specs.Survey.{decodedBy, decodedAs, decoded}
-use Rattle.numbers.specs.FitLaws.{NumbersFit, as-they-stand, header-passed, course-passes, item-passes, reading-passes}
-use Rattle.survey.specs.NumberedLaws.{decoded-as-verdict}
+use Rattle.readings.specs.FitLaws.{NumbersFit, as-they-stand, reading-passes}
+use Rattle.numbers.specs.FitLaws.{header-passed, course-passes, item-passes}
+use Rattle.survey.specs.DimensionLaws.{taken-apart, kind-known}
+use Rattle.survey.specs.KnownLaws.{decoded-as-verdict}
 use Rattle.survey.specs.SurveyLaws.{passed-file}
 use Rattle.rewrite.specs.Rewritten.{deadwoodFrom, seamsFrom, offsetOf, coursesWords, deadwoodWords, seamsWords, sectionBytes, headerOf, noSeams, rewritten, mostBytes}
 use Rattle.rewrite.specs.WordLaws.{word-front, word-behind, word-of-part, word-of-zeros, EachSmall, word-of-words}
@@ -260,8 +265,8 @@ module _ (s : List ℕ) (fit : Placed format48 s) where
 
   -- refusals 1 to 4 are not given
 
-  size-passes : within (today .header) (length t) largestFile ≡ true
-  size-passes = within-at {low = today .header} {x = length t} {high = largestFile} (omega (arith, rewritten-long)) (omega (arith, rewritten-short))
+  size-passes : verdict (sizeTests today t) ≡ Passed
+  size-passes = rw (le-leb (length t) largestFile (omega (arith, rewritten-short)), le-leb (today .header) (length t) (omega (arith, rewritten-long)))
 
   layout-passes : kindKnown (word s kindAt) ≡ true → verdict (layoutTests today t) ≡ Passed
   unfolding layoutTests
@@ -312,24 +317,24 @@ module _ (s : List ℕ) (accepted : decodedAs format48 s .verdict ≡ Passed) wh
 
   courses-pass : verdict (sectionTests new (courses today new)) ≡ Passed
   courses-pass =
-      all-passed (courses today new .count) (λ i. courseTests new (recordAt (courses today new) i))
+      all-passed (courses today new .count) (λ i. courseTests new (recordOf (courses today new) i))
       (λ i l. course-passes-too format48 s today new same i (old-course i l) (course-passes format48 s (as-they-stand format48 s fits) i (old-course i l)))
 
   deadwood-passes : verdict (sectionTests new (deadwood today new)) ≡ Passed
   deadwood-passes =
-      all-passed (deadwood today new .count) (λ i. itemTests new (recordAt (deadwood today new) i))
+      all-passed (deadwood today new .count) (λ i. itemTests new (recordOf (deadwood today new) i))
       (λ i l. item-passes-too format48 s today new same i (old-item i l) (item-passes format48 s (as-they-stand format48 s fits) i (old-item i l)))
 
   seams-pass : verdict (sectionTests new (seams today new)) ≡ Passed
   unfolding seamTests
   seams-pass =
       let none = seam-words s (fits .placed) in
-      all-passed (seams today new .count) (λ i. seamTests new (recordAt (seams today new) i))
+      all-passed (seams today new .count) (λ i. seamTests new (recordOf (seams today new) i))
       (λ i l. rw (none i seamNumberIn, none i seamThicknessIn, none i seamWidthIn))
 
   readings-pass : verdict (correctedTests today new) ≡ Passed
   readings-pass =
-      all-passed (courses today new .count) (λ i. readingTests new (recordAt (courses today new) i) (riseOf today new i))
+      all-passed (courses today new .count) (λ i. readingTests new (recordOf (courses today new) i) (riseOf today new i))
       (λ i l. reading-passes-too format48 s today new same i (old-course i l) (reading-passes format48 s fits i (old-course i l)))
 
   sections-pass : verdict (sectionsTests new (sections today new)) ≡ Passed
@@ -345,20 +350,14 @@ module _ (s : List ℕ) (accepted : decodedAs format48 s .verdict ≡ Passed) wh
       (both-passed (headerTests new) (sectionsTests new (sections today new)) header sections-pass)
       readings-pass
 
-  kind-known : kindKnown (word s kindAt) ≡ true
-  unfolding fileTests layoutTests
-  kind-known =
-      let behind = passed-pick (within (format48 .header) (length s) largestFile) _ _ e .1 in
-      let layout = passed-append (layoutTests format48 s) (numberTests format48 s ++ dimensionTests format48 s) behind .0 in
-      passed-all (layoutTests format48 s) layout .1 .1 .1 .1 .1 .1 .1 .1 .1 .0
-
   -- it is not refused ..
   rewritten-passes : verdict (fileTests today new) ≡ Passed
   unfolding fileTests
   rewritten-passes =
       let dimensions = ap verdict (sym (same-dimension-tests format48 s today new same)) ∙ passed-file format48 s format48-readable e .1 in
-      rw (size-passes s (fits .placed))
-      (both-passed (layoutTests today new) (numberTests today new ++ dimensionTests today new) (layout-passes s (fits .placed) kind-known)
+      let kind = kind-known format48 s (taken-apart format48 s e .0) in
+      both-passed (sizeTests today new) (layoutTests today new ++ (numberTests today new ++ dimensionTests today new)) (size-passes s (fits .placed))
+      (both-passed (layoutTests today new) (numberTests today new ++ dimensionTests today new) (layout-passes s (fits .placed) kind)
       (both-passed (numberTests today new) (dimensionTests today new) numbers-pass dimensions))
 
   -- .. and has the same survey

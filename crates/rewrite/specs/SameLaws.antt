@@ -16,10 +16,12 @@ use Rattle.file.specs.declared.section.Section.{Section}
 use Rattle.file.specs.Word.{word, signedWord}
 use Rattle.file.specs.Layout.{kindAt, dhAt, l1At, leftAt, rightAt, l2At, l3At, stepAt, coursesAt, firstIn, secondIn, lengthIn, thicknessIn, lowIn, highIn, volumeIn, courseEnd, itemEnd}
 use Rattle.file.specs.Section.{courses, deadwood, recordAt}
-use Rattle.numbers.specs.Item.{itemFrom, itemsOf}
-use Rattle.numbers.specs.Reading.{riseOf}
+use Rattle.records.specs.Item.{itemFrom, itemsOf}
+use Rattle.readings.specs.Reading.{riseOf}
 use Rattle.dimensions.specs.Dimensions.{sumOf, sumsOver, sumsOf, shellDiameter, d1, d2}
-use Rattle.numbers.specs.Tests.{headerTests, courseTests, itemTests, readingTests}
+use Rattle.records.specs.Record.{recordOf}
+use Rattle.numbers.specs.Tests.{headerTests, courseTests, itemTests}
+use Rattle.readings.specs.Tests.{readingTests}
 use Rattle.dimensions.specs.Tests.{dimensionTests}
 use Rattle.survey.specs.Survey.{surveyOf}
 
@@ -117,10 +119,10 @@ module _ (f : Format) (s : List ℕ) (g : Format) (t : List ℕ) (same : SameNum
       )
 
   module _ (i : ℕ) (l : i < courses f s .count) where
-    pub course-passes-too : verdict (courseTests s (recordAt (courses f s) i)) ≡ Passed → verdict (courseTests t (recordAt (courses g t) i)) ≡ Passed
+    pub course-passes-too : verdict (courseTests s (recordOf (courses f s) i)) ≡ Passed → verdict (courseTests t (recordOf (courses g t) i)) ≡ Passed
     unfolding courseTests
     course-passes-too e =
-        let pass = passed-all (courseTests s (recordAt (courses f s) i)) e in
+        let pass = passed-all (courseTests s (recordOf (courses f s) i)) e in
         rw (
           ← same .course i firstIn l (omega arith),
           ← same .course i secondIn l (omega arith),
@@ -132,16 +134,16 @@ module _ (f : Format) (s : List ℕ) (g : Format) (t : List ℕ) (same : SameNum
           pass .1 .1 .1 .0,
         )
 
-    pub reading-passes-too : verdict (readingTests s (recordAt (courses f s) i) (riseOf f s i)) ≡ Passed
-        → verdict (readingTests t (recordAt (courses g t) i) (riseOf g t i)) ≡ Passed
+    pub reading-passes-too : verdict (readingTests s (recordOf (courses f s) i) (riseOf f s i)) ≡ Passed
+        → verdict (readingTests t (recordOf (courses g t) i) (riseOf g t i)) ≡ Passed
     unfolding readingTests
     reading-passes-too e =
-        let pass = passed-all (readingTests s (recordAt (courses f s) i) (riseOf f s i)) e in
+        let pass = passed-all (readingTests s (recordOf (courses f s) i) (riseOf f s i)) e in
         rw (← same .rise i, ← same .course i firstIn l (omega arith), ← same .course i secondIn l (omega arith), pass .0, pass .1 .0)
 
   pub item-passes-too : (i : ℕ) → i < deadwood f s .count
-      → verdict (itemTests s (recordAt (deadwood f s) i)) ≡ Passed → verdict (itemTests t (recordAt (deadwood g t) i)) ≡ Passed
+      → verdict (itemTests s (recordOf (deadwood f s) i)) ≡ Passed → verdict (itemTests t (recordOf (deadwood g t) i)) ≡ Passed
   unfolding itemTests
   item-passes-too i l e =
-      let pass = passed-all (itemTests s (recordAt (deadwood f s) i)) e in
+      let pass = passed-all (itemTests s (recordOf (deadwood f s) i)) e in
       rw (← same .header dhAt (omega arith), ap (λ x. heightsFit x (word s dhAt)) (sym (same-item i l)) ∙ pass .0, ap volumeFits (sym (same-item i l)) ∙ pass .1 .0)

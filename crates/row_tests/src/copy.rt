@@ -5,12 +5,12 @@ ghost use Prim.Native.Nat.{ℕ, _^_, _≤_, _<_};
 ghost use lib.ListN.{length, drop};
 ghost use Rattle.laws.specs.Fill.{rowsOf};
 ghost use Rattle.refusal.specs.Test.{verdict};
+ghost use Rattle.schedule.specs.Rows.{rowCount, rowHeight};
 ghost use Rattle.rows.specs.RowLaws.{netOf, cellIn};
 ghost use Rattle.row_tests.specs.Tests.{rowTests};
 ghost use Rattle.row_tests.specs.Left.{leftBy};
 use crate::tests::rows_tested;
 use arith::signed;
-use refusal::Refusal;
 use refusal::Verdict;
 
 // The rows fit their cells.
@@ -26,18 +26,12 @@ fn copy_rows(net: &[i64], rows: usize, table: &mut [u32])
 }
 
 // Refusals 8 and 9 on rows in memory; a table that is refused is not touched.
-pub fn test_and_copy(net: &[i64], rows: usize, table: &mut [u32]) -> Verdict
-    requires { ⌜ (rows ≤ length (now net)) × (rows < 2 ^ 32) × ((i : ℕ) → i < rows → cellIn (now net) i < 2 ^ 32) ⌝ }
-    ensures { λ r. ⌜ r ≡ verdict (rowTests (netOf (now (net .entry))) rows (length (now (table .entry)))) ⌝ }
+pub fn test_and_copy(net: &[i64], dh: u32, step: u32, rows: usize, table: &mut [u32]) -> Verdict
+    requires { ⌜ (rows ≤ length (now net)) × (rows < 2 ^ 32) × (0 < step) × (rows ≡ rowCount dh step) × ((i : ℕ) → i < rows → cellIn (now net) i < 2 ^ 32) ⌝ }
+    ensures { λ r. ⌜ r ≡ verdict (rowTests (netOf (now (net .entry))) (rowHeight dh step) rows (length (now (table .entry)))) ⌝ }
     ensures { λ r. ⌜ now (table .exit) ≡ leftBy r (cellIn (now (net .entry))) rows (now (table .entry)) ⌝ }
 {
-    if table.len() < rows {
-        return Verdict::Refused(Refusal {
-            number: 8,
-            place: 0,
-        });
-    }
-    let v = rows_tested(net, rows);
+    let v = rows_tested(net, dh, step, rows, table.len());
     match v {
         Verdict::Refused(r) => Verdict::Refused(r),
         Verdict::Passed => {

@@ -13,14 +13,14 @@ use Rattle.refusal.specs.Test.{items}
 use Rattle.heads.specs.declared.kind.HeadKind.{HeadKind}
 use Rattle.heads.specs.declared.kind.HeadKind.the-variants.{Flat, SphericalCap}
 use Rattle.heads.specs.Kind.{kindKnown, kindOf}
-use Rattle.heads.specs.Length.{lengthFits}
 use Rattle.seams.specs.Rise.{firstTerm, secondTerm, tapeRise}
 use Rattle.file.specs.Word.{word, signedWord, bytesOf}
 use Rattle.file.specs.Section.{placed, apart}
-use Rattle.file.specs.Tests.{layoutTests}
-use Rattle.numbers.specs.Reading.{riseOf}
-use Rattle.numbers.specs.Tests.{headerTests, courseTests, itemTests, seamTests, readingTests}
-use Rattle.dimensions.specs.Dimensions.{sumOf, sumsOver, lengthsFit, outerDiameter, wall, shellDiameter, headDiameter, diameterFits}
+use Rattle.form.specs.Tests.{layoutTests}
+use Rattle.readings.specs.Reading.{riseOf}
+use Rattle.numbers.specs.Tests.{headerTests, courseTests, itemTests, seamTests}
+use Rattle.readings.specs.Tests.{readingTests}
+use Rattle.dimensions.specs.Dimensions.{sumOf, sumsOver, outerDiameter, wall, shellDiameter, headDiameter, diameterFits}
 use Rattle.dimensions.specs.Tests.{dimensionTests}
 use Rattle.survey.specs.declared.decode.Survey.{Survey}
 use Rattle.survey.specs.Tests.{fileTests}
@@ -90,7 +90,7 @@ seamedRows =
     ∷ 2 ∷ 200 ∷ 1200 ∷ [])
 
 all-decoded : SixRows sixRows × MissingCourses × LongestCaps × SixRows seamedRows
-unfolding rowsOf nearest root rootOf items kindKnown kindOf lengthFits firstTerm secondTerm tapeRise word signedWord placed apart riseOf sumOf sumsOver lengthsFit outerDiameter wall shellDiameter headDiameter diameterFits layoutTests headerTests courseTests itemTests seamTests readingTests dimensionTests fileTests decoded
+unfolding rowsOf nearest root rootOf items kindKnown kindOf firstTerm secondTerm tapeRise word signedWord placed apart riseOf sumOf sumsOver outerDiameter wall shellDiameter headDiameter diameterFits layoutTests headerTests courseTests itemTests seamTests readingTests dimensionTests fileTests decoded
 all-decoded = (refl, (refl, refl, refl, refl), refl, refl)
 
 pub six-rows-decoded : SixRows sixRows

@@ -1,20 +1,24 @@
 -- Bytes in no section are ignored (document 01, 'The survey file'): two files that agree in the header's bytes and in those of every
--- section, and whose lengths refusals 1 and 3 find alike, decode to the same. Assumes nothing.
+-- section, and whose lengths refusals 1 and 3 find alike, decode alike. Assumes nothing.
 use Prim.Native.Nat.{ℕ, zero, suc, _+_, _≤_, _<_}
-use mathlib.Core.Path.{_≡_, refl, _∙_, ap, ap₂}
+use mathlib.Core.Path.{_≡_, refl, sym, _∙_, ap, ap₂}
+use mathlib.Core.Bool.{Bool, true, false, _&&_}
 use mathlib.Core.List.{List, [], _∷_, _++_, List·Memᴰ, List·Memᴰ·head, List·Memᴰ·tail}
 use native.Mathlib.Nat.{mul-le-mul-left}
 use native.Mathlib.Omega.{arith}
 use borrow.Author.Tests.{leb-true, ltb-true}
-use lib.Dec.{ltb}
+use lib.Dec.{leb, ltb}
 use lib.ListN.{length, getD}
 use Rattle.laws.specs.BoolLaws.{by-test}
 use Rattle.laws.specs.Order.{pick}
 use Rattle.laws.specs.Fill.{rowsOf}
 use Rattle.laws.specs.FillLaws.{rowsOf-agree}
-use Rattle.refusal.specs.Test.{verdict, test, items, within}
-use Rattle.refusal.specs.TestLaws.{items-agree}
-use Rattle.heads.specs.Kind.{kindKnown}
+use Rattle.refusal.specs.declared.Refusal.{Refusal}
+use Rattle.refusal.specs.declared.Verdict.{Verdict}
+use Rattle.refusal.specs.declared.Verdict.the-variants.{Passed, Refused}
+use Rattle.refusal.specs.Test.{verdict, items, within}
+use Rattle.refusal.specs.TestLaws.{items-agree, refused-not-passed}
+use Rattle.refusal.specs.PlainLaws.{plainRefusal, plain, plain-append, plain-pick}
 use Rattle.seams.specs.Seam.{noSeam}
 use Rattle.seams.specs.Rise.{tapeRise}
 use Rattle.file.specs.declared.format.Format.{Format}
@@ -28,12 +32,16 @@ use Rattle.file.specs.Layout.{seamHeaderEnd, courseEnd, itemEnd, seamEnd, first
 use Rattle.file.specs.Limits.{largestFile}
 use Rattle.file.specs.Section.{courses, deadwood, seamWord, seams, sections, recordAt, endOf, placed, recordLong}
 use Rattle.file.specs.SectionLaws.{Readable, today-readable}
-use Rattle.file.specs.Tests.{countTests, apartTests, placeTests, layoutTests}
-use Rattle.numbers.specs.Item.{itemFrom, itemsOf}
-use Rattle.numbers.specs.Reading.{seamFrom, seamOf, riseOf}
-use Rattle.numbers.specs.Tests.{headerTests, limitTests, correctedTests, numberTests, courseTests, itemTests, seamTests, readingTests, recordTests, sectionTests}
+use Rattle.form.specs.Tests.{sizeTests, countTests, apartTests, placeTests, kindTest, layoutTests}
+use Rattle.records.specs.Item.{itemFrom, itemsOf, seamFrom}
+use Rattle.readings.specs.Reading.{seamOf, riseOf}
+use Rattle.records.specs.declared.record.Record.{Record}
+use Rattle.records.specs.Record.{recordOf}
+use Rattle.numbers.specs.Tests.{heightsTest, volumeTest, headerTests, limitTests, courseTests, itemTests, seamTests, recordTests, sectionTests}
+use Rattle.readings.specs.Tests.{correctedTests, numberTests, readingTests}
 use Rattle.dimensions.specs.Dimensions.{sumOf, added, sumsOver, sumsOf, shellDiameter, d1, d2}
 use Rattle.dimensions.specs.Tests.{dimensionTests}
+use Rattle.survey.specs.declared.decode.Decoded.{Decoded}
 use Rattle.survey.specs.Tests.{fileTests}
 use Rattle.survey.specs.Survey.{surveyOf, decodedBy, decodedAs, decoded}
 
@@ -53,6 +61,11 @@ pub record SameSectionsAs (f : Format) (s s′ : List ℕ) : Type 0 where
 abbrev pub SameSections : (s s′ : List ℕ) → Type 0
 SameSections s s′ = SameSectionsAs today s s′
 
+-- what is decoded: refused with the same number and place or not at all, and the same survey. What a refusal is about may differ, since of a
+-- bad place the file's size is told
+abbrev pub Alike : Decoded → Decoded → Type 0
+Alike d d′ = (plain (d .verdict) ≡ plain (d′ .verdict)) × (d .survey ≡ d′ .survey)
+
 -- bytes that agree give the same words, records, tests and sums
 
 module _ (s s′ : List ℕ) where
@@ -70,12 +83,13 @@ module _ (s s′ : List ℕ) where
   word-of-record : (at long k : ℕ) → SameBytes s s′ at (at + long) → k + 4 ≤ long → word s (at + k) ≡ word s′ (at + k)
   word-of-record at long k bytes high = word-agrees at (at + long) (at + k) bytes (omega arith) (omega arith)
 
-  course-agrees : (at : ℕ) → SameBytes s s′ at (at + courseEnd)
-      → (courseTests s at ≡ courseTests s′ at)
-      × ((rise : ℕ) → readingTests s at rise ≡ readingTests s′ at rise)
-      × ((rise : ℕ) → sumOf s at rise ≡ sumOf s′ at rise)
+  course-agrees : (x : Record) → SameBytes s s′ (x .at) (x .at + courseEnd)
+      → (courseTests s x ≡ courseTests s′ x)
+      × ((rise : ℕ) → readingTests s x rise ≡ readingTests s′ x rise)
+      × ((rise : ℕ) → sumOf s (x .at) rise ≡ sumOf s′ (x .at) rise)
   unfolding courseTests readingTests sumOf
-  course-agrees at bytes =
+  course-agrees x bytes =
+      let at = x .at in
       let first = word-of-record at courseEnd firstIn bytes (omega arith) in
       let second = word-of-record at courseEnd secondIn bytes (omega arith) in
       let length = word-of-record at courseEnd lengthIn bytes (omega arith) in
@@ -89,20 +103,21 @@ module _ (s s′ : List ℕ) where
       let volume = signed-agrees (at + volumeIn) (word-of-record at itemEnd volumeIn bytes (omega arith)) in
       cc
 
-  seam-agrees : (at : ℕ) → SameBytes s s′ at (at + seamEnd) → (seamTests s at ≡ seamTests s′ at) × (seamFrom s at ≡ seamFrom s′ at)
+  seam-agrees : (x : Record) → SameBytes s s′ (x .at) (x .at + seamEnd) → (seamTests s x ≡ seamTests s′ x) × (seamFrom s (x .at) ≡ seamFrom s′ (x .at))
   unfolding seamTests
-  seam-agrees at bytes =
+  seam-agrees x bytes =
+      let at = x .at in
       let number = word-of-record at seamEnd seamNumberIn bytes (omega arith) in
       let thickness = word-of-record at seamEnd seamThicknessIn bytes (omega arith) in
       let width = word-of-record at seamEnd seamWidthIn bytes (omega arith) in
       (rw (number, thickness, width), rw (number, thickness, width))
 
-  record-agrees : (records : Records) (at : ℕ) → word s dhAt ≡ word s′ dhAt → SameBytes s s′ at (at + recordLong records)
-      → recordTests records s at ≡ recordTests records s′ at
+  record-agrees : (records : Records) (x : Record) → word s dhAt ≡ word s′ dhAt → SameBytes s s′ (x .at) (x .at + recordLong records)
+      → recordTests records s x ≡ recordTests records s′ x
   unfolding itemTests
-  record-agrees Courses at dh bytes = course-agrees at bytes .0
-  record-agrees Deadwood at dh bytes = let item = item-agrees at bytes in cc
-  record-agrees Seams at dh bytes = seam-agrees at bytes .0
+  record-agrees Courses x dh bytes = course-agrees x bytes .0
+  record-agrees Deadwood x dh bytes = ap₂ (λ d n. heightsTest d n x ∷ volumeTest d x ∷ []) (item-agrees (x .at) bytes) dh
+  record-agrees Seams x dh bytes = seam-agrees x bytes .0
 
   -- a section whose bytes agree
   module _ (x : Section) (bytes : SameBytes s s′ (x .offset) (endOf x)) where
@@ -113,16 +128,37 @@ module _ (s s′ : List ℕ) where
 
     section-agrees : recordLong (x .records) ≤ x .size → word s dhAt ≡ word s′ dhAt → sectionTests s x ≡ sectionTests s′ x
     section-agrees fits dh =
-        items-agree (x .count) _ _ (λ i l. record-agrees (x .records) (recordAt x i) dh (record-bytes (recordLong (x .records)) i fits l))
+        items-agree (x .count) _ _ (λ i l. record-agrees (x .records) (recordOf x i) dh (record-bytes (recordLong (x .records)) i fits l))
 
--- sections that are placed alike
+-- files that refusal 1 is given to, or not, alike
+sizes-agree : (header size size′ : ℕ) → within header size largestFile ≡ within header size′ largestFile
+    → (r r′ q q′ : Refusal) → plainRefusal r ≡ plainRefusal r′ → plainRefusal q ≡ plainRefusal r → plainRefusal q′ ≡ plainRefusal r′
+    → plain (pick (leb size largestFile) (pick (within header size largestFile) Passed (Refused r)) (Refused q))
+    ≡ plain (pick (leb size′ largestFile) (pick (within header size′ largestFile) Passed (Refused r′)) (Refused q′))
+sizes-agree header size size′ alike r r′ q q′ same first first′ =
+    one (leb header size) (leb size largestFile) r q first
+    ∙ rw (← alike) (choose (within header size largestFile)) ∙ sym (one (leb header size′) (leb size′ largestFile) r′ q′ first′)
+  where
+    one : (a b : Bool) (r q : Refusal) → plainRefusal q ≡ plainRefusal r
+        → plain (pick b (pick (a && b) Passed (Refused r)) (Refused q)) ≡ pick (a && b) Passed (Refused (plainRefusal r))
+    one true true r q e = refl
+    one false true r q e = refl
+    one true false r q e = ap Refused e
+    one false false r q e = ap Refused e
+
+    choose : (b : Bool) → pick b Passed (Refused (plainRefusal r)) ≡ pick b Passed (Refused (plainRefusal r′))
+    choose true = refl
+    choose false = ap Refused same
+
+-- sections that are placed alike: what is told of a bad place is the file's size too
 places-agree : (header size size′ : ℕ) (xs : List Section) → ((x : Section) → List·Memᴰ x xs → placed header size x ≡ placed header size′ x)
-    → placeTests header size xs ≡ placeTests header size′ xs
+    → plain (verdict (placeTests header size xs)) ≡ plain (verdict (placeTests header size′ xs))
 places-agree header size size′ [] alike = refl
 places-agree header size size′ (x ∷ xs) alike =
-    ap₂ (λ passes tests. test 3 0 passes ∷ apartTests x xs ++ tests)
-    (alike x (List·Memᴰ·head refl))
-    (places-agree header size size′ xs (λ y m. alike y (List·Memᴰ·tail m)))
+    rw (alike x (List·Memᴰ·head refl))
+    (plain-pick (placed header size′ x) _ _ _ _
+    (plain-append (apartTests x xs) (placeTests header size xs) (apartTests x xs) (placeTests header size′ xs) refl
+    (places-agree header size size′ xs (λ y m. alike y (List·Memᴰ·tail m)))) refl)
 
 module _ (f : Format) (s s′ : List ℕ) (readable : Readable f) (same : SameSectionsAs f s s′) where
   header-word : (at : ℕ) → at + 4 ≤ headerEnd → word s at ≡ word s′ at
@@ -155,14 +191,18 @@ module _ (f : Format) (s s′ : List ℕ) (readable : Readable f) (same : SameSe
   same-counts : countTests f s ≡ countTests f s′
   same-counts = rw (header-word coursesAt (omega arith), header-word deadwoodAt (omega arith), same-seam-word seamsAt (omega arith))
 
-  same-layout : layoutTests f s ≡ layoutTests f s′
+  same-layout : plain (verdict (layoutTests f s)) ≡ plain (verdict (layoutTests f s′))
   unfolding layoutTests
   same-layout =
       let same-sections : sections f s ≡ sections f s′ = ap₂ _∷_ same-courses (ap₂ _∷_ same-deadwood (ap (λ (x : Section). x ∷ []) same-seams)) in
       let same-places = places-agree (f .header) (length s) (length s′) (sections f s) (same .place) in
-      ap₂ _++_
-      (ap₂ _++_ same-counts (same-places ∙ ap (placeTests (f .header) (length s′)) same-sections))
-      (ap (λ number. test 4 0 (kindKnown number) ∷ []) (header-word kindAt (omega arith)))
+      let places = placeTests (f .header) (length s) (sections f s) in
+      let places′ = placeTests (f .header) (length s′) (sections f s′) in
+      plain-append (countTests f s ++ places) (kindTest s ∷ []) (countTests f s′ ++ places′) (kindTest s′ ∷ [])
+      (plain-append (countTests f s) places (countTests f s′) places′
+      (ap (λ ts. plain (verdict ts)) same-counts)
+      (same-places ∙ ap (λ xs. plain (verdict (placeTests (f .header) (length s′) xs))) same-sections))
+      (rw (header-word kindAt (omega arith)))
 
   same-header : headerTests s ≡ headerTests s′
   unfolding headerTests
@@ -194,7 +234,7 @@ module _ (f : Format) (s s′ : List ℕ) (readable : Readable f) (same : SameSe
       by-test (ltb i (seams f s .count))
       (λ l.
       let bytes = record-bytes s s′ (seams f s) seams-bytes seamEnd i (readable .seam) (ltb-true i (seams f s .count) l) in
-      rw (l, seam-agrees s s′ (recordAt (seams f s) i) bytes .1))
+      rw (l, seam-agrees s s′ (recordOf (seams f s) i) bytes .1))
       (λ none. rw none)
 
   same-rise : (i : ℕ) → riseOf f s i ≡ riseOf f s′ i
@@ -206,20 +246,20 @@ module _ (f : Format) (s s′ : List ℕ) (readable : Readable f) (same : SameSe
 
   -- course i, where it is one
   same-course : (i : ℕ) → i < courses f s .count
-      → (readingTests s (recordAt (courses f s) i) (riseOf f s i) ≡ readingTests s′ (recordAt (courses f s′) i) (riseOf f s′ i))
+      → (readingTests s (recordOf (courses f s) i) (riseOf f s i) ≡ readingTests s′ (recordOf (courses f s′) i) (riseOf f s′ i))
       × (sumOf s (recordAt (courses f s) i) (riseOf f s i) ≡ sumOf s′ (recordAt (courses f s′) i) (riseOf f s′ i))
   same-course i l =
       let x = courses f s in
-      let course = course-agrees s s′ (recordAt x i) (record-bytes s s′ x courses-bytes courseEnd i (readable .course) l) in
-      let there = ap (λ (y : Section). recordAt y i) same-courses in (
+      let course = course-agrees s s′ (recordOf x i) (record-bytes s s′ x courses-bytes courseEnd i (readable .course) l) in
+      let there = ap (λ (y : Section). recordOf y i) same-courses in (
         course .1 (riseOf f s i) ∙ ap₂ (readingTests s′) there (same-rise i),
-        course .2 (riseOf f s i) ∙ ap₂ (sumOf s′) there (same-rise i),
+        course .2 (riseOf f s i) ∙ ap₂ (sumOf s′) (ap (λ y. y .at) there) (same-rise i),
       )
 
   same-corrected : correctedTests f s ≡ correctedTests f s′
   same-corrected =
-      items-agree (courses f s .count) _ (λ i. readingTests s′ (recordAt (courses f s′) i) (riseOf f s′ i)) (λ i l. same-course i l .0)
-      ∙ ap (λ (n : ℕ). items n (λ i. readingTests s′ (recordAt (courses f s′) i) (riseOf f s′ i))) (ap (λ (x : Section). x .count) same-courses)
+      items-agree (courses f s .count) _ (λ i. readingTests s′ (recordOf (courses f s′) i) (riseOf f s′ i)) (λ i l. same-course i l .0)
+      ∙ ap (λ (n : ℕ). items n (λ i. readingTests s′ (recordOf (courses f s′) i) (riseOf f s′ i))) (ap (λ (x : Section). x .count) same-courses)
 
   same-numbers : numberTests f s ≡ numberTests f s′
   same-numbers = ap₂ _++_ same-limits same-corrected
@@ -245,11 +285,14 @@ module _ (f : Format) (s s′ : List ℕ) (readable : Readable f) (same : SameSe
       let l3 = header-word l3At (omega arith) in
       cc (same-sums, same-d1, same-d2, header-word l1At (omega arith), header-word dhAt (omega arith))
 
-  -- the same tests ..
-  pub same-tests : fileTests f s ≡ fileTests f s′
+  -- the same refusals ..
+  pub same-verdict : plain (verdict (fileTests f s)) ≡ plain (verdict (fileTests f s′))
   unfolding fileTests
-  same-tests =
-      ap₂ (λ passes tests. test 1 0 passes ∷ tests) (same .size) (ap₂ _++_ same-layout (ap₂ _++_ same-numbers same-dimensions))
+  same-verdict =
+      plain-append (sizeTests f s) (layoutTests f s ++ (numberTests f s ++ dimensionTests f s)) (sizeTests f s′) (layoutTests f s′ ++ (numberTests f s′ ++ dimensionTests f s′))
+      (sizes-agree (f .header) (length s) (length s′) (same .size) _ _ _ _ refl refl refl)
+      (plain-append (layoutTests f s) (numberTests f s ++ dimensionTests f s) (layoutTests f s′) (numberTests f s′ ++ dimensionTests f s′) same-layout
+      (ap (λ ts. plain (verdict ts)) (ap₂ _++_ same-numbers same-dimensions)))
 
   same-items : itemsOf f s ≡ itemsOf f s′
   same-items =
@@ -270,11 +313,17 @@ module _ (f : Format) (s s′ : List ℕ) (readable : Readable f) (same : SameSe
       let count = header-word deadwoodAt (omega arith) in
       cc (same-d1, same-d2, same-items)
 
-  pub same-decoded : decodedAs f s ≡ decodedAs f s′
-  same-decoded = ap₂ decodedBy (ap verdict same-tests) same-survey
+  pub same-decoded : Alike (decodedAs f s) (decodedAs f s′)
+  same-decoded = by-verdict (verdict (fileTests f s)) (verdict (fileTests f s′)) same-verdict
+    where
+      by-verdict : (v v′ : Verdict) → plain v ≡ plain v′ → Alike (decodedBy v (surveyOf f s)) (decodedBy v′ (surveyOf f s′))
+      by-verdict Passed Passed e = (refl, same-survey)
+      by-verdict (Refused r) (Refused r′) e = (e, refl)
+      by-verdict Passed (Refused r′) e = absurd (refused-not-passed (plainRefusal r′) (sym e))
+      by-verdict (Refused r) Passed e = absurd (refused-not-passed (plainRefusal r) e)
 
 -- bytes in no section are ignored
-pub other-bytes-ignored : (s s′ : List ℕ) → SameSections s s′ → decoded s ≡ decoded s′
+pub other-bytes-ignored : (s s′ : List ℕ) → SameSections s s′ → Alike (decoded s) (decoded s′)
 unfolding decoded
 other-bytes-ignored s s′ same = same-decoded today s s′ today-readable same
 
@@ -286,5 +335,5 @@ same-length f s s′ size header bytes = record { size = rw size; header = heade
 
 pub changed-bytes-ignored : (s s′ : List ℕ) → length s ≡ length s′ → SameBytes s s′ 0 seamHeaderEnd
     → ((x : Section) → List·Memᴰ x (sections today s) → SameBytes s s′ (x .offset) (endOf x))
-    → decoded s ≡ decoded s′
+    → Alike (decoded s) (decoded s′)
 changed-bytes-ignored s s′ size header bytes = other-bytes-ignored s s′ (same-length today s s′ size header bytes)

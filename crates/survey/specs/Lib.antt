@@ -4,8 +4,9 @@ pub mod Tests
 pub mod Survey
 pub mod SurveyLaws
 pub mod LimitLaws
-pub mod NumberedLaws
+pub mod KnownLaws
 pub mod IgnoredLaws
 pub mod DimensionLaws
 pub mod ExactlyLaws
 pub mod ExampleLaws
+pub mod RefusedExampleLaws

@@ -18,7 +18,7 @@ use Rattle.file.specs.Word.{word}
 use Rattle.file.specs.Layout.{kindAt, dhAt, l1At, l2At, l3At, stepAt}
 use Rattle.file.specs.Format.{today}
 use Rattle.file.specs.Section.{deadwood}
-use Rattle.numbers.specs.Item.{itemsOf}
+use Rattle.records.specs.Item.{itemsOf}
 use Rattle.dimensions.specs.Dimensions.{d1, d2}
 use Rattle.survey.specs.declared.decode.Decoded.{Decoded}
 use Rattle.survey.specs.declared.decode.Survey.{Survey}

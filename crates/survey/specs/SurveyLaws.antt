@@ -2,8 +2,7 @@
 use Prim.Native.Nat.{ℕ, _≤_}
 use mathlib.Core.Path.{_≡_, refl}
 use mathlib.Core.Bool.{true}
-use mathlib.Core.List.{List, _++_}
-use lib.ListN.{length}
+use mathlib.Core.List.{List}
 use lib.Seq.{take-at}
 use Rattle.laws.specs.FillLaws.{length-rowsOf}
 use Rattle.laws.specs.BoolLaws.{both-pass}
@@ -11,7 +10,7 @@ use Rattle.measure.specs.Diameter.{smallest, largest}
 use Rattle.refusal.specs.declared.Verdict.{Verdict}
 use Rattle.refusal.specs.declared.Verdict.the-variants.{Passed, Refused}
 use Rattle.refusal.specs.Test.{verdict, within, near}
-use Rattle.refusal.specs.TestLaws.{refused-not-passed, passed-pick, passed-all, passed-append, within-pass}
+use Rattle.refusal.specs.TestLaws.{refused-not-passed, passed-all, within-pass}
 use Rattle.deadwood.specs.Item.{mostItems}
 use Rattle.deadwood.specs.ListLaws.{DeadwoodLimits}
 use Rattle.schedule.specs.Rows.{smallestStep, largestStep}
@@ -22,18 +21,17 @@ use Rattle.file.specs.declared.format.Format.{Format}
 use Rattle.file.specs.Word.{word}
 use Rattle.file.specs.Layout.{kindAt, dhAt, l3At}
 use Rattle.file.specs.Format.{today}
-use Rattle.file.specs.Limits.{largestFile}
 use Rattle.file.specs.Section.{deadwood}
-use Rattle.file.specs.SectionLaws.{Readable, today-readable, placed-file}
-use Rattle.file.specs.Tests.{layoutTests}
-use Rattle.numbers.specs.Tests.{numberTests}
-use Rattle.numbers.specs.Item.{itemsOf}
-use Rattle.numbers.specs.FitLaws.{NumbersFit, as-they-stand, dh-fits, step-fits, lengths-fit, head-length-fits, items-fit}
+use Rattle.file.specs.SectionLaws.{Readable, today-readable}
+use Rattle.records.specs.Item.{itemsOf}
+use Rattle.readings.specs.FitLaws.{NumbersFit, as-they-stand}
+use Rattle.numbers.specs.FitLaws.{dh-fits, step-fits, lengths-fit, head-length-fits, items-fit}
 use Rattle.dimensions.specs.Dimensions.{farthest, d1, d2, diameterFits}
 use Rattle.dimensions.specs.Tests.{dimensionTests}
 use Rattle.survey.specs.declared.decode.Decoded.{Decoded}
 use Rattle.survey.specs.declared.decode.Survey.{Survey}
 use Rattle.survey.specs.Tests.{fileTests}
+use Rattle.survey.specs.DimensionLaws.{taken-apart, numbers-pass}
 use Rattle.survey.specs.Survey.{surveyOf, itemsIn, decodedBy, decodedAs, decoded}
 
 -- what a survey that is not refused promises to whoever reads it
@@ -51,14 +49,8 @@ fits-within : (d dh : ℕ) → diameterFits d dh ≡ true → (smallest ≤ d) �
 unfolding diameterFits
 fits-within d dh e = within-pass smallest d largest (both-pass (near d dh farthest) (within smallest d largest) e .1)
 
--- the tests taken apart
 pub passed-file : (f : Format) (s : List ℕ) → Readable f → verdict (fileTests f s) ≡ Passed → NumbersFit f s × (verdict (dimensionTests f s) ≡ Passed)
-unfolding fileTests
-passed-file f s readable e =
-    let size = passed-pick (within (f .header) (length s) largestFile) _ _ e in
-    let layout = passed-append (layoutTests f s) (numberTests f s ++ dimensionTests f s) (size .1) in
-    let numbers = passed-append (numberTests f s) (dimensionTests f s) (layout .1) in
-    (record { placed = placed-file f s readable (size .0) (layout .0); numbers = numbers .0 }, numbers .1)
+passed-file f s readable e = let parts = taken-apart f s e in (numbers-pass f s (parts .0) readable, parts .1)
 
 pub survey-fits : (f : Format) (s : List ℕ) → Readable f → verdict (fileTests f s) ≡ Passed → SurveyLimits (surveyOf f s)
 unfolding dimensionTests
@@ -66,9 +58,8 @@ survey-fits f s readable e =
     let numbers = passed-file f s readable e .0 in
     let fit = as-they-stand f s numbers in
     let pass = passed-all (dimensionTests f s) (passed-file f s readable e .1) in
-    let near = both-pass (diameterFits (d1 f s) (word s dhAt)) (diameterFits (d2 f s) (word s dhAt)) (pass .1 .0) in
-    let shell = fits-within (d1 f s) (word s dhAt) (near .0) in
-    let heads = fits-within (d2 f s) (word s dhAt) (near .1) in
+    let shell = fits-within (d1 f s) (word s dhAt) (pass .1 .0) in
+    let heads = fits-within (d2 f s) (word s dhAt) (pass .1 .1 .0) in
     let n = deadwood f s .count in
     record {
       tank = record {
@@ -80,7 +71,7 @@ survey-fits f s readable e =
         d2-high = heads .1;
         l1-high = lengths-fit f s fit .0;
         l2-high = lengths-fit f s fit .1;
-        heads = within-limits (kindOf (word s kindAt)) (d2 f s) (word s l3At) (head-length-fits f s fit) (pass .1 .1 .0);
+        heads = within-limits (kindOf (word s kindAt)) (d2 f s) (word s l3At) (head-length-fits f s fit .0) (head-length-fits f s fit .1) (pass .1 .1 .1 .0);
       };
       step-low = step-fits f s fit .0;
       step-high = step-fits f s fit .1;

@@ -8,8 +8,9 @@ ghost use Rattle.file.specs.Word.{word};
 ghost use Rattle.file.specs.Layout.{headerEnd, dhAt};
 ghost use Rattle.file.specs.Format.{format48};
 ghost use Rattle.file.specs.Section.{deadwood};
-ghost use Rattle.file.specs.SectionLaws.{Readable, Placed};
-ghost use Rattle.numbers.specs.Item.{itemsOf};
+ghost use Rattle.file.specs.SectionLaws.{Readable};
+ghost use Rattle.form.specs.PlacedLaws.{Placed};
+ghost use Rattle.records.specs.Item.{itemsOf};
 ghost use Rattle.survey.specs.Survey.{tankOf, filledUp, surveyWith, noSurvey, decodedBy, decodedAs, decoded};
 ghost use Rattle.survey.specs.SurveyLaws.{WithinLimits};
 use crate::judge::judged;
@@ -20,17 +21,20 @@ use file::format::Format;
 use file::layout;
 use file::section::deadwood;
 use file::section::record_at;
-use file::tests;
 use file::word::word;
+use form::tests;
 use heads::kind::HeadKind;
 use measure::diameter::Diameter;
-use numbers::item::item_from;
+use records::item::item_from;
 use refusal::Refusal;
 use refusal::Verdict;
 use tank::tank::Tank;
 
 // The size in bytes past which every file is refused: what a caller reads of one.
 pub const LARGEST_FILE: usize = tests::LARGEST_FILE;
+
+// The length in bytes of the header that old files have: what `decode_48` reads.
+pub const OLD_HEADER: usize = layout::HEADER_END;
 
 // All that a table is made of. Behind the deadwood items stand items that take nothing.
 pub struct Survey {

@@ -7,10 +7,9 @@ ghost use Rattle.survey.specs.Tests.{fileTests};
 use dimensions::dimensions::Dimensions;
 use dimensions::judge::measured;
 use file::format::Format;
-use file::tests::layout_tested;
-use file::tests::size_fits;
-use numbers::numbers::numbers_tested;
-use refusal::Refusal;
+use form::tests::layout_tested;
+use form::tests::size_tested;
+use readings::tests::numbers_tested;
 use refusal::Verdict;
 
 // A file of any bytes, of any length, in a format.
@@ -18,11 +17,9 @@ pub fn judged(f: Format, s: &[u8]) -> Dimensions
     requires { ⌜ Readable f ⌝ }
     ensures { λ r. ⌜ r ≡ judgedBy f (now (s .entry)) (verdict (fileTests f (now (s .entry)))) ⌝ }
 {
-    if !size_fits(f, s) {
-        return Dimensions::Refused(Refusal {
-            number: 1,
-            place: 0,
-        });
+    let size = size_tested(f, s);
+    if let Verdict::Refused(r) = size {
+        return Dimensions::Refused(r);
     }
     let placed = layout_tested(f, s);
     if let Verdict::Refused(r) = placed {

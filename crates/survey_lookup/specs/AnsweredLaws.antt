@@ -32,16 +32,15 @@ use Rattle.table.specs.Answer.{verdictOn}
 use Rattle.lookup.specs.declared.litres.LitresAnswer.{LitresAnswer}
 use Rattle.lookup.specs.declared.height.HeightAnswer.{HeightAnswer}
 use Rattle.lookup.specs.declared.delivered.DeliveredAnswer.{DeliveredAnswer}
-use Rattle.lookup.specs.Table.{row, keepsUp, neverFalls, soundTable}
+use Rattle.lookup.specs.Table.{row, lastRow, keepsUp, neverFalls, soundTable}
 use Rattle.lookup.specs.Litres.{litres}
 use Rattle.lookup.specs.Height.{heightFor}
-use Rattle.lookup.specs.Answer.{litresAnswer, heightAnswer}
+use Rattle.lookup.specs.Answer.{tooMuch, litresAnswer, heightAnswer}
 use Rattle.lookup.specs.AnswerLaws.{read-off, reached-answer, refused-too-much, read-off-only, reached-only}
 use Rattle.lookup.specs.Delivered.{deliveredAnswer}
 use Rattle.lookup.specs.DeliveredLaws.{delivered-inside, read-off-both, read-off-both-only}
 use Rattle.survey_lookup.specs.declared.Tabled.{Tabled}
-use Rattle.survey_lookup.specs.Tabled.{tabled, lastRow}
-use Rattle.survey_lookup.specs.TabledLaws.{tabled-verdict, answer-in-file, last-row-own}
+use Rattle.survey_lookup.specs.TabledLaws.{answer-in-file}
 use Rattle.survey_lookup.specs.Answer.{answerBy, answerIn, answerFrom, AsFromFile, litresIn, litresFrom, ReadOffOwn}
 use Rattle.survey_lookup.specs.Answer.{heightIn, heightFrom, ReachedOwn, deliveredIn, deliveredFrom, ReadOffBothOwn}
 
@@ -106,11 +105,11 @@ every-delivery-answered file before after within made l m =
 
 -- a volume is too much exactly when it is above the last row
 pub refused-above-last : (file : Decoded) (w : ℕ) → WithinLimits file → verdictOn file mostRows ≡ Passed
-    → Exactly (heightFrom file w ≡ HeightAnswer.Refused (refusal 13 0)) (lastRow (tabled file) < w)
+    → let last = lastRow (diameterUnits (file .survey .tank .dh)) (file .survey .step) (tableOf (file .survey)) in
+    Exactly (heightFrom file w ≡ HeightAnswer.Refused (refusal 13 0 (tooMuch w last))) (last < w)
 unfolding heightFrom
 refused-above-last file w within made =
-    let last = last-row-own file (tabled-verdict file ∙ made) in
-    rw (made, last) (exactly-when (refused-too-much _ _ _ w) (λ h. h .1) (λ h. (own-table-sound file mostRows within made, h)))
+    rw made (exactly-when (refused-too-much _ _ _ w) (λ h. h .1) (λ h. (own-table-sound file mostRows within made, h)))
 
 -- what holds of the lookup on the survey's own table and of every refusal holds of the answer
 answered : {A : Type 0} (P : A → Type 0) (refused : Refusal → A) (look : ℕ → ℕ → List ℕ → A) (dh step : ℕ) (rows : List ℕ)

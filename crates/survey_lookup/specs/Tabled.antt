@@ -1,8 +1,8 @@
 -- A survey file's own table with what a lookup takes beside it: DH, the step and the row count; or the refusal, with all numbers 0.
 -- Assumes nothing.
-use Prim.Native.Nat.{ℕ, _-_}
+use Prim.Native.Nat.{ℕ}
 use mathlib.Core.List.{List}
-use lib.ListN.{length, take, replicate}
+use lib.ListN.{take, replicate}
 use Rattle.measure.specs.Quantity.{diameterUnits}
 use Rattle.refusal.specs.declared.Verdict.{Verdict}
 use Rattle.refusal.specs.declared.Verdict.the-variants.{Passed, Refused}
@@ -11,7 +11,6 @@ use Rattle.survey.specs.declared.decode.Decoded.{Decoded}
 use Rattle.survey.specs.declared.decode.Survey.{Survey}
 use Rattle.rows.specs.Rows.{rowsIn}
 use Rattle.table.specs.Answer.{verdictOn, tableLeft}
-use Rattle.lookup.specs.Table.{row}
 use Rattle.survey_lookup.specs.declared.Tabled.{Tabled}
 
 -- the memory that the rows are written to, with room for the most rows
@@ -28,10 +27,3 @@ tabled file = tabledBy (verdictOn file mostRows) (file .survey) (tableLeft file 
 -- the rows of a table in hand: as many as it counts, from the front of its memory
 abbrev pub ownRows : Tabled → List ℕ
 ownRows t = take (t .rows) (t .table)
-
--- the last of some rows, 0 where there is none
-abbrev pub lastOf : List ℕ → ℕ
-lastOf rows = row rows (length rows - 1)
-
-unfoldable pub lastRow : Tabled → ℕ
-lastRow t = lastOf (ownRows t)

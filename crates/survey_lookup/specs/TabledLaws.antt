@@ -1,6 +1,6 @@
 -- What a survey file's own table tells: the verdict on the file, and where that refuses nothing the numbers and rows of its survey.
 -- Assumes nothing.
-use Prim.Native.Nat.{ℕ, _-_, _≤_}
+use Prim.Native.Nat.{ℕ, _≤_}
 use mathlib.Core.Path.{_≡_, refl, sym, _∙_, ap}
 use mathlib.Core.List.{List}
 use native.Mathlib.Omega.{arith}
@@ -22,9 +22,8 @@ use Rattle.rows.specs.Rows.{rowsIn, cellOf, tableOf}
 use Rattle.row_tests.specs.Tests.{tableTests}
 use Rattle.table.specs.Answer.{verdictOn, tableLeft}
 use Rattle.table.specs.AnswerLaws.{front-is-table}
-use Rattle.lookup.specs.Table.{row}
 use Rattle.survey_lookup.specs.declared.Tabled.{Tabled}
-use Rattle.survey_lookup.specs.Tabled.{noRows, tabledBy, tabled, lastRow}
+use Rattle.survey_lookup.specs.Tabled.{noRows, tabledBy, tabled}
 use Rattle.survey_lookup.specs.Answer.{answerBy, answerIn, answerFrom}
 
 pub no-rows-room : length noRows ≡ mostRows
@@ -77,14 +76,3 @@ answer-in-file {A} refused look file = go (verdictOn file mostRows) refl
         ≡ answerBy refused look w (diameterUnits (file .survey .tank .dh)) (file .survey .step) (tableOf (file .survey))
     go Passed e = ap (look _ _) (front-is-table file noRows (rw no-rows-room e))
     go (Refused r) e = refl
-
--- the last row of a table that was made is the survey's
-pub last-row-own : (file : Decoded) → tabled file .verdict ≡ Passed → lastRow (tabled file) ≡ row (tableOf (file .survey)) (rowsIn (file .survey) - 1)
-unfolding lastRow tabled
-last-row-own file is-passed =
-    let passed = sym (tabled-verdict file) ∙ is-passed in
-    rw (passed, front-is-table file noRows (rw no-rows-room passed), length-rowsOf (cellOf (file .survey)) (rowsIn (file .survey)))
-
-pub last-row-told : (t : Tabled) {r : ℕ} → r ≡ lastRow t
-    → (r ≡ lastRow t) × ((file : Decoded) → t ≡ tabled file → t .verdict ≡ Passed → r ≡ row (tableOf (file .survey)) (rowsIn (file .survey) - 1))
-last-row-told t e = (e, λ file is passed. e ∙ ap lastRow is ∙ last-row-own file (sym (ap (λ t. t .verdict) is) ∙ passed))

@@ -1,15 +1,10 @@
 // A survey file's own table, made once in memory that goes with the answer, and the lookups on it: as many as are asked for.
 ghost use mathlib.Core.Path.{_≡_};
-ghost use Prim.Native.Nat.{_-_};
 ghost use lib.ListN.{take};
 ghost use Rattle.measure.specs.Quantity.{dipUnits, volumeUnits};
-ghost use Rattle.refusal.specs.declared.Verdict.the-variants.{Passed};
-ghost use Rattle.survey.specs.declared.decode.Decoded.{Decoded};
 ghost use Rattle.survey.specs.Survey.{decoded};
-ghost use Rattle.rows.specs.Rows.{rowsIn, tableOf};
-ghost use Rattle.lookup.specs.Table.{row};
 ghost use Rattle.survey_lookup.specs.Answer.{litresIn, litresFrom, ReadOffOwn, heightIn, heightFrom, ReachedOwn, deliveredIn, deliveredFrom, ReadOffBothOwn, AsFromFile};
-ghost use Rattle.survey_lookup.specs.Tabled.{tabled, lastRow};
+ghost use Rattle.survey_lookup.specs.Tabled.{tabled};
 use lookup::delivered::DeliveredAnswer;
 use lookup::delivered::delivered;
 use lookup::height::HeightAnswer;
@@ -19,10 +14,10 @@ use lookup::litres::litres_at;
 use measure::dip_height::DipHeight;
 use measure::volume::Volume;
 use refusal::Verdict;
+use rows::rows_in;
 use schedule::MOST_ROWS;
 use survey::decode::decode;
-use table::make::Made;
-use table::make::tabulate;
+use table::make::filled;
 
 // A survey's table with what a lookup takes beside it; or the refusal, with all numbers 0.
 pub struct Tabled {
@@ -42,20 +37,20 @@ pub fn table_of(survey: &[u8]) -> Tabled
     let tank = read.tank;
     let dip_point = tank.dh;
     let mut table = [0u32; MOST_ROWS];
-    let made = tabulate(file, &mut table);
-    match made {
-        Made::Refused(r) => Tabled {
+    let verdict = filled(file, &mut table);
+    match verdict {
+        Verdict::Refused(r) => Tabled {
             verdict: Verdict::Refused(r),
             dh: 0,
             step: 0,
             rows: 0,
             table,
         },
-        Made::Table(_, _, rows) => Tabled {
+        Verdict::Passed => Tabled {
             verdict: Verdict::Passed,
             dh: dip_point.units(),
             step: read.step,
-            rows: rows as usize,
+            rows: rows_in(read),
             table,
         },
     }
@@ -109,17 +104,4 @@ pub fn delivered_in(t: Tabled, before: DipHeight, after: DipHeight) -> Delivered
         Verdict::Refused(r) => DeliveredAnswer::Refused(r),
         Verdict::Passed => delivered(t.dh, t.step, front(&table, t.rows), before, after),
     }
-}
-
-// The last row, 0 where there is none; and that on the table of a survey file it is the survey's. A volume above it gets refusal 13.
-pub fn last_row(t: Tabled) -> u32
-    ensures { λ r. ⌜ r ≡ lastRow t ⌝ }
-    ensures { λ r. ⌜ ((file : Decoded) → t ≡ tabled file → t .verdict ≡ Passed → r ≡ row (tableOf (file .survey)) (rowsIn (file .survey) - 1)) ⌝ }
-{
-    let table = t.table;
-    let rows = front(&table, t.rows);
-    if rows.len() == 0 {
-        return 0;
-    }
-    rows[rows.len() - 1]
 }

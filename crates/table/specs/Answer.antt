@@ -18,10 +18,10 @@ use Rattle.table.specs.declared.make.Made.the-variants as answers
 abbrev pub verdictOn : Decoded → ℕ → Verdict
 verdictOn file cells = firstRefusal (file .verdict) (verdict (tableTests (file .survey) cells))
 
--- D1, D2 and the row count; or the refusal
+-- D1, D2 and the row count; or the refusal's number and place, which is all of it that the answer keeps
 abbrev pub answerBy : Verdict → Survey → Made
 answerBy Passed v = answers.Table (v .tank .d1) (v .tank .d2) (rowsIn v)
-answerBy (Refused r) v = answers.Refused r
+answerBy (Refused r) v = answers.Refused (r .number) (r .place)
 
 -- the answer
 unfoldable pub made : Decoded → ℕ → Made

@@ -26,4 +26,4 @@ pub record Condition3At (v : Survey) (table : List ℕ) (i : ℕ) : Type 0 where
 -- a claim about a row, of every row of every table that is made
 abbrev pub EveryRow : (Survey → List ℕ → ℕ → Type 0) → Survey → Made → List ℕ → Type 0
 EveryRow claim v (answers.Table d1 d2 rows) table = (i : ℕ) → i < rows → claim v table i
-EveryRow claim v (answers.Refused r) table = Unit {0}
+EveryRow claim v (answers.Refused number place) table = Unit {0}

@@ -3,7 +3,7 @@ pub mod Answer
 pub mod Condition3
 pub mod AnswerLaws
 pub mod RetiredLaws
-pub mod NumberedLaws
+pub mod KnownLaws
 pub mod NoDeadwoodLaws
 pub mod Condition3Laws
 pub mod PromiseLaws

@@ -30,11 +30,11 @@ module _ (v : Survey) (limits : SurveyLimits v) (no-items : v .count ≡ 0) wher
       rw (net-is-gross v no-items (heightOf v i), net-is-gross v no-items (heightOf v (suc i)))
       (le-leb _ _ (gross-mono (v .tank) (limits .tank) (heightOf v i) (heightOf v (suc i)) up))
 
-  none-fall : verdict (items (rowsIn v) (fallTest (netRow v))) ≡ Passed
-  none-fall = all-passed (rowsIn v) (fallTest (netRow v)) (λ i l. rw (keeps-up i))
+  none-fall : verdict (items (rowsIn v) (fallTest (netRow v) (heightOf v))) ≡ Passed
+  none-fall = all-passed (rowsIn v) (fallTest (netRow v) (heightOf v)) (λ i l. rw (keeps-up i))
 
   pub no-deadwood-passed : (cells : ℕ) → rowsIn v ≤ cells → verdict (tableTests v cells) ≡ Passed
-  no-deadwood-passed cells room = room-enough (netRow v) (rowsIn v) cells room ∙ none-fall
+  no-deadwood-passed cells room = room-enough (netRow v) (heightOf v) (rowsIn v) cells room ∙ none-fall
 
 pub no-deadwood-answered : (file : Decoded) (cells : ℕ) → WithinLimits file → file .verdict ≡ Passed → file .survey .count ≡ 0
     → rowsIn (file .survey) ≤ cells

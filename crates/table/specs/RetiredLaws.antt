@@ -5,18 +5,17 @@ use mathlib.Core.Path.{_≡_, refl, _∙_, ap}
 use mathlib.Core.Bool.{true}
 use mathlib.Core.List.{List, [], _∷_, _++_}
 use native.Mathlib.Omega.{arith}
-use lib.Dec.{leb}
 use lib.IntN.{ℤ}
 use lib.Signed.{nonNeg}
 use Rattle.measure.specs.declared.diameter.Diameter.{Diameter}
 use Rattle.refusal.specs.declared.Verdict.{Verdict}
 use Rattle.refusal.specs.declared.Verdict.the-variants.{Passed, Refused}
-use Rattle.refusal.specs.Test.{Test, test, verdict, items, firstRefusal}
+use Rattle.refusal.specs.Test.{Test, about, test, verdict, items, firstRefusal}
 use Rattle.refusal.specs.TestLaws.{verdict-append, passed-both, all-passed}
 use Rattle.survey.specs.declared.decode.Decoded.{Decoded}
 use Rattle.survey.specs.declared.decode.Survey.{Survey}
 use Rattle.rows.specs.Rows.{rowsIn, netRow}
-use Rattle.row_tests.specs.Tests.{fallTest, rowTests, tableTests}
+use Rattle.row_tests.specs.Tests.{tableTests}
 use Rattle.row_tests.specs.RowTestLaws.{none-below-zero}
 use Rattle.table.specs.declared.make.Made.{Made}
 use Rattle.table.specs.Answer.{verdictOn, made}
@@ -32,14 +31,13 @@ no-row-below-zero file cells e i l =
 -- the tests before: 10 was looked for once 9 had been in the whole table
 
 abbrev pub belowZeroTest : (ℕ → ℤ) → ℕ → List Test
-belowZeroTest row i = test 10 i (nonNeg (row i)) ∷ []
+belowZeroTest row i = test 10 i (nonNeg (row i)) (about 0 0 0 0 0) ∷ []
 
 abbrev pub testsBefore : Survey → ℕ → List Test
 testsBefore v cells =
-    test 8 0 (leb (rowsIn v) cells) ∷ (items (rowsIn v) (fallTest (netRow v)) ++ items (rowsIn v) (belowZeroTest (netRow v)))
+    tableTests v cells ++ items (rowsIn v) (belowZeroTest (netRow v))
 
 same-verdict : (v : Survey) (cells : ℕ) → verdict (testsBefore v cells) ≡ verdict (tableTests v cells)
-unfolding rowTests
 same-verdict v cells =
     verdict-append (tableTests v cells) (items (rowsIn v) (belowZeroTest (netRow v))) ∙ by-verdict (verdict (tableTests v cells)) refl
   where

@@ -1,7 +1,6 @@
-// Whether a file's table can be made by whoever has room for every row. Nothing is written.
+// Whether a file's table can be made by whoever has room for so many rows. Nothing is written.
 ghost use mathlib.Core.Path.{_≡_};
 ghost use Rattle.refusal.specs.Test.{verdict};
-ghost use Rattle.schedule.specs.Rows.{mostRows};
 ghost use Rattle.survey.specs.SurveyLaws.{SurveyLimits, WithinLimits};
 ghost use Rattle.row_tests.specs.Tests.{tableTests};
 ghost use Rattle.table.specs.Answer.{verdictOn};
@@ -13,25 +12,27 @@ use schedule::MOST_ROWS;
 use survey::decode::Decoded;
 use survey::decode::Survey;
 
-fn rows_judged(v: Survey) -> Verdict
+fn rows_judged(v: Survey, cells: usize) -> Verdict
     requires { ⌜ SurveyLimits v ⌝ }
-    ensures { λ r. ⌜ r ≡ verdict (tableTests v mostRows) ⌝ }
+    ensures { λ r. ⌜ r ≡ verdict (tableTests v cells) ⌝ }
 {
     let rows = rows_in(v);
+    let tank = v.tank;
+    let dip_point = tank.dh;
     let mut net = [0i64; MOST_ROWS];
     net_rows(v, rows, &mut net);
-    rows_tested(&net, rows)
+    rows_tested(&net, dip_point.units(), v.step, rows, cells)
 }
 
-// Refusals 1 to 9 and 14, of which 8 is never given.
-pub fn judged(file: Decoded) -> Verdict
+// Refusals 1 to 9 and 14, for a lent table of so many cells.
+pub fn judged(file: Decoded, cells: usize) -> Verdict
     requires { ⌜ WithinLimits file ⌝ }
-    ensures { λ r. ⌜ r ≡ verdictOn file mostRows ⌝ }
+    ensures { λ r. ⌜ r ≡ verdictOn file cells ⌝ }
 {
     let verdict = file.verdict;
     let v = file.survey;
     match verdict {
         Verdict::Refused(r) => Verdict::Refused(r),
-        Verdict::Passed => rows_judged(v),
+        Verdict::Passed => rows_judged(v, cells),
     }
 }

@@ -1,15 +1,17 @@
 // tanklookup: the litres at dip heights of a surveyed tank, the lowest dip heights for volumes, or the litres delivered between two dips;
 // and beside a refusal, on standard error, what it means in words. Figures are in mm and litres with up to two decimals, as on the tape.
 ghost use Rattle.io.specs.Counts.{Counts};
+use figures::Figure;
+use figures::read_figure;
 use libc::STDERR_FILENO;
 use libc::STDOUT_FILENO;
 use refusal::Verdict;
-use report::ERR_SIZE;
-use report::LINE_SIZE;
-use report::Said;
 use report::lookups::delivered_said;
 use report::lookups::height_said;
 use report::lookups::litres_said;
+use said::ERR_SIZE;
+use said::LINE_SIZE;
+use said::Said;
 use streams::read_input;
 use streams::read_named;
 use streams::write_output;
@@ -17,8 +19,6 @@ use streams::write_whole;
 use survey::decode::LARGEST_FILE;
 use survey_lookup::Tabled;
 use survey_lookup::table_of;
-use text::read::Figure;
-use text::read::read_figure;
 
 enum Command {
     Litres,
@@ -96,7 +96,6 @@ fn hundredths_at(i: usize) -> u32 {
 // What is said to a figure; `after` is the second one, for what was delivered.
 fn answer(
     command: Command,
-    survey: &[u8],
     t: Tabled,
     asked: u32,
     after: u32,
@@ -107,17 +106,17 @@ fn answer(
     ensures { λ r. ⌜ Counts (r .err) (now (err .exit)) ⌝ }
 {
     match command {
-        Command::Height => height_said(survey, t, asked, out, err),
-        Command::Delivered => delivered_said(survey, t, asked, after, out, err),
-        _ => litres_said(survey, t, asked, out, err),
+        Command::Height => height_said(t, asked, out, err),
+        Command::Delivered => delivered_said(t, asked, after, out, err),
+        _ => litres_said(t, asked, out, err),
     }
 }
 
 // Says it. Answers whether its line could be written.
-fn tell(command: Command, survey: &[u8], t: Tabled, asked: u32, after: u32) -> bool {
+fn tell(command: Command, t: Tabled, asked: u32, after: u32) -> bool {
     let mut out = [0u8; LINE_SIZE];
     let mut err = [0u8; ERR_SIZE];
-    let said = answer(command, survey, t, asked, after, &mut out, &mut err);
+    let said = answer(command, t, asked, after, &mut out, &mut err);
     let line = said.out;
     let words = said.err;
     let put = write_output(&out[..line]);
@@ -126,10 +125,10 @@ fn tell(command: Command, survey: &[u8], t: Tabled, asked: u32, after: u32) -> b
 }
 
 // A line for each figure from argument `first` on, up to the first that could not be written.
-fn tell_each(command: Command, survey: &[u8], t: Tabled, first: usize, words: usize) {
+fn tell_each(command: Command, t: Tabled, first: usize, words: usize) {
     let mut i = first;
     while i < words {
-        if !tell(command, survey, t, hundredths_at(i), 0) {
+        if !tell(command, t, hundredths_at(i), 0) {
             return;
         }
         i += 1;
@@ -144,20 +143,14 @@ fn tell_all(command: Command, survey: &[u8], first: usize, words: usize) {
     let t = table_of(survey);
     let verdict = t.verdict;
     if let Verdict::Refused(_) = verdict {
-        tell(command, survey, t, 0, 0);
+        tell(command, t, 0, 0);
         return;
     }
     if let Command::Delivered = command {
-        tell(
-            command,
-            survey,
-            t,
-            hundredths_at(first),
-            hundredths_at(words - 1),
-        );
+        tell(command, t, hundredths_at(first), hundredths_at(words - 1));
         return;
     }
-    tell_each(command, survey, t, first, words);
+    tell_each(command, t, first, words);
 }
 
 // Whether so many words are right: a command and its figures, of which delivered takes two and the others any number.

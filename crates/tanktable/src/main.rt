@@ -1,9 +1,9 @@
 // tanktable: the capacity table of a survey, or the line of its refusal; and beside a refusal, on standard error, what it means in words.
 use libc::STDERR_FILENO;
 use libc::STDOUT_FILENO;
-use report::ERR_SIZE;
-use report::OUT_SIZE;
 use report::table::table_said;
+use said::ERR_SIZE;
+use said::OUT_SIZE;
 use streams::read_input;
 use streams::read_named;
 use streams::write_output;

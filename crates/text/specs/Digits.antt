@@ -1,10 +1,8 @@
--- A number in decimal digits, a number of hundredths with two decimals, digits in threes, and signs, as ASCII. Assumes nothing.
+-- A number in decimal digits, a number of hundredths with two decimals, and the sign of one below 0, as ASCII. Assumes nothing.
 use Prim.Native.Nat.{ℕ, zero, suc, _+_, _/_, _%_}
 use Prim.Native.Char.{code}
 use mathlib.Core.List.{List, [], _∷_, _++_}
-use lib.Dec.{ltb}
 use lib.IntN.{ℤ, pos, negsuc}
-use Rattle.laws.specs.Order.{pick}
 use Rattle.text.specs.Ascii.{ascii}
 
 abbrev pub digitOf : ℕ → ℕ
@@ -29,30 +27,7 @@ twoDecimals n = ascii "." ++ digitOf (n / 10 % 10) ∷ [] ++ digitOf (n % 10) �
 unfoldable pub hundredths : ℕ → List ℕ
 hundredths n = digits (n / 100) ++ twoDecimals n
 
--- the last three digits
-abbrev pub threeDigits : ℕ → List ℕ
-threeDigits n = digitOf (n / 100 % 10) ∷ [] ++ digitOf (n / 10 % 10) ∷ [] ++ digitOf (n % 10) ∷ []
-
--- digits in threes from the right, with a comma between, and at most k commas
-unfoldable pub inThrees : (k n : ℕ) → List ℕ
-inThrees zero n = digits n
-inThrees (suc k) n = pick (ltb n 1000) (digits n) (inThrees k (n / 1000) ++ ascii "," ++ threeDigits n)
-
--- of 64 bits
-abbrev pub mostCommas : ℕ
-mostCommas = 6
-
--- hundredths as a person reads them: 270000 are 2,700.00
-unfoldable pub grouped : ℕ → List ℕ
-grouped n = inThrees mostCommas (n / 100) ++ twoDecimals n
-
--- a sign, where there is one ..
+-- a sign, where there is one
 abbrev pub minusOf : ℤ → List ℕ
 minusOf (pos n) = []
 minusOf (negsuc n) = ascii "-"
-
--- .. and where any is said, of all but 0
-abbrev pub signOf : ℤ → List ℕ
-signOf (pos zero) = []
-signOf (pos (suc n)) = ascii "+"
-signOf (negsuc n) = ascii "-"

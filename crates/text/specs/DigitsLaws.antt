@@ -1,18 +1,13 @@
--- Laws of decimal digits: how they go on from those of a tenth, and how many there are; of digits in threes; of signs. Assumes nothing.
-use Prim.Native.Nat.{ℕ, zero, suc, _+_, _-_, _/_, _%_, _^_, _≤_, _<_}
+-- Laws of decimal digits: how they go on from those of a tenth, and how many there are. Assumes nothing.
+use Prim.Native.Nat.{ℕ, zero, suc, _+_, _/_, _%_, _^_, _≤_, _<_}
 use mathlib.Core.Path.{_≡_, refl, sym, ap}
 use mathlib.Core.List.{List, [], _∷_, _++_}
 use native.Mathlib.Nat.{le-refl, pow-suc}
 use native.Mathlib.Omega.{arith}
-use mathlib.Core.Bool.{true, false}
-use borrow.Author.Tests.{ltb-true, ltb-false, le-ltb, lt-ltb}
 use lib.IntN.{ℤ, pos, negsuc}
-use lib.Signed.{ltZ}
 use lib.ListN.{length, length-append}
-use Rattle.laws.specs.BoolLaws.{true-not-false}
 use Rattle.laws.specs.OrderLaws.{by-order}
-use Rattle.text.specs.Ascii.{ascii}
-use Rattle.text.specs.Digits.{digitOf, significant, digits, hundredths, threeDigits, inThrees, mostCommas, grouped, minusOf, signOf}
+use Rattle.text.specs.Digits.{digitOf, significant, digits, hundredths, minusOf}
 
 significant-none : (k : ℕ) → significant k 0 ≡ []
 unfolding significant
@@ -73,35 +68,6 @@ digits-at-most n h = length-digits 9 n (omega arith)
 pub hundredths-at-most : (n : ℕ) → n < 2 ^ 32 → length (hundredths n) ≤ 11
 hundredths-at-most n h = rw (length-hundredths n) (omega (arith, length-digits 7 (n / 100) (omega arith)))
 
--- digits in threes: no comma left, none needed, and one more
-
-pub in-threes-none : (k n : ℕ) → k ≡ 0 → inThrees k n ≡ digits n
-unfolding inThrees
-in-threes-none zero n h = refl
-in-threes-none (suc k) n h = absurd (omega arith)
-
-pub in-threes-below : (k n : ℕ) → n < 1000 → inThrees k n ≡ digits n
-unfolding inThrees
-in-threes-below zero n h = refl
-in-threes-below (suc k) n h = rw (lt-ltb n 1000 h)
-
-pub in-threes-more : (k n : ℕ) → 0 < k → 1000 ≤ n → inThrees k n ≡ inThrees (k - 1) (n / 1000) ++ ascii "," ++ threeDigits n
-unfolding inThrees
-in-threes-more zero n h l = absurd (omega arith)
-in-threes-more (suc k) n h l = let less : suc k - 1 ≡ k = omega arith in rw (le-ltb n 1000 l, less)
-
--- the sign of a number above 0, and of any other
-
-pub sign-above : (z : ℤ) → ltZ (pos 0) z ≡ true → signOf z ≡ ascii "+"
-sign-above (pos zero) h = absurd (omega (arith, ltb-true 0 0 h))
-sign-above (pos (suc n)) h = refl
-sign-above (negsuc n) h = absurd (true-not-false (sym h))
-
-pub sign-not-above : (z : ℤ) → ltZ (pos 0) z ≡ false → signOf z ≡ minusOf z
-sign-not-above (pos zero) h = refl
-sign-not-above (pos (suc n)) h = absurd (omega (arith, ltb-false 0 (suc n) h))
-sign-not-above (negsuc n) h = refl
-
 -- of 64 bits with a sign
 
 pub digits-of-64 : (n : ℕ) → n ≤ 2 ^ 63 → length (digits n) ≤ 19
@@ -110,27 +76,6 @@ digits-of-64 n h = length-digits 18 n (omega arith)
 pub hundredths-of-64 : (n : ℕ) → n ≤ 2 ^ 63 → length (hundredths n) ≤ 20
 hundredths-of-64 n h = rw (length-hundredths n) (omega (arith, length-digits 16 (n / 100) (omega arith)))
 
--- a comma for three digits
-length-thousands : (n : ℕ) → 1000 ≤ n → length (digits n) ≡ length (digits (n / 1000)) + 3
-length-thousands n h =
-    let tens : n / 10 / 10 / 10 ≡ n / 1000 = omega arith in
-    rw (digits-more n (omega arith), digits-more (n / 10) (omega arith), digits-more (n / 10 / 10) (omega arith), tens)
-    (simp length-append (omega arith))
-
-pub length-in-threes : (k n : ℕ) → length (inThrees k n) ≤ length (digits n) + k
-unfolding inThrees
-length-in-threes zero n = omega arith
-length-in-threes (suc k) n =
-    by-order 1000 n
-    (λ l. rw (le-ltb n 1000 l) (simp length-append (omega (arith, length-in-threes k (n / 1000), length-thousands n l))))
-    (λ l. rw (lt-ltb n 1000 l) (omega arith))
-
-pub grouped-of-64 : (n : ℕ) → n ≤ 2 ^ 63 → length (grouped n) ≤ 26
-unfolding grouped
-grouped-of-64 n h =
-    simp length-append (omega (arith, length-in-threes mostCommas (n / 100), length-digits 16 (n / 100) (omega arith)))
-
-pub sign-at-most : (z : ℤ) → (length (minusOf z) ≤ 1) × (length (signOf z) ≤ 1)
-sign-at-most (pos zero) = (omega arith, omega arith)
-sign-at-most (pos (suc n)) = (omega arith, omega arith)
-sign-at-most (negsuc n) = (omega arith, omega arith)
+pub minus-at-most : (z : ℤ) → length (minusOf z) ≤ 1
+minus-at-most (pos n) = omega arith
+minus-at-most (negsuc n) = omega arith

@@ -1,6 +1,3 @@
-// The words that the programs print and the figures that they read: text put into lent memory, and what a text says, each equal to its
-// definition.
-pub mod line;
+// Text put into lent memory, each piece equal to its definition.
+pub mod grouped;
 pub mod put;
-pub mod read;
-pub mod sentence;

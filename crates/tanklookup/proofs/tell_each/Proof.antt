@@ -5,10 +5,10 @@ use Rattle.tanklookup.proofs.tell_each.Statement.{statement}
 use Rattle.tanklookup.proofs.tell_each.Tie as tie
 
 abbrev Inv-loop : tie.InvT-loop
-Inv-loop command survey t first words i₀ i = Unit {0}
+Inv-loop command t first words i₀ i = Unit {0}
 
 abbrev μ-loop : tie.MeasureT-loop
-μ-loop command survey t first words i₀ i = words - i
+μ-loop command t first words i₀ i = words - i
 
 pub tell-each-spec : {M : Type 1} → statement M
 tell-each-spec =

@@ -7,8 +7,8 @@ use native.Mathlib.Omega.{arith}
 use lib.ListN.{length}
 use Rattle.file.specs.Layout.{courseEnd}
 use Rattle.file.specs.Section.{courses, recordAt}
-use Rattle.numbers.specs.Reading.{riseOf}
-use Rattle.numbers.specs.FitLaws.{as-they-stand, courses-fit}
+use Rattle.readings.specs.Reading.{riseOf}
+use Rattle.readings.specs.FitLaws.{as-they-stand, courses-fit}
 use Rattle.dimensions.specs.Dimensions.{sumOf, added, sumsOver, sumsOf}
 use Rattle.dimensions.specs.SumLaws.{sum-fits, sums-fit, sums-small, file-sums-fit}
 use Rattle.dimensions.proofs.dimensions.file_sums.Statement.{statement}

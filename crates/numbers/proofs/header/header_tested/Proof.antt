@@ -13,9 +13,9 @@ returns c =
     let s = c .before .before .before .before .before .args .s .now in
     rw (
       ← verdict-in-turn Passed (headerTests s),
-      c .limit2 .ensures,
+      c .header-limit2 .ensures,
       c .before .head-length-tested .ensures,
-      c .before .before .limit .ensures,
+      c .before .before .header-limit .ensures,
       c .before .before .before .shell-tested .ensures ∙ sym (verdict-in-turn Passed (shellTests s)),
     )
 

@@ -10,10 +10,10 @@ returns : tie.Need-returns
 returns c =
     rw (
       ← verdict-in-turn Passed (shellTests (c .before .before .before .before .before .args .s .now)),
-      c .limit4 .ensures,
-      c .before .limit3 .ensures,
-      c .before .before .limit2 .ensures,
-      c .before .before .before .limit .ensures,
+      c .header-limit4 .ensures,
+      c .before .header-limit3 .ensures,
+      c .before .before .header-limit2 .ensures,
+      c .before .before .before .header-limit .ensures,
     )
 
 pub shell-tested-spec : {M : Type 1} → statement M

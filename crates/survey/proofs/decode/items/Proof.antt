@@ -10,7 +10,7 @@ use Rattle.laws.specs.FillLaws.{Filled, filled-none, filled-more, filled-all}
 use Rattle.deadwood.specs.Item.{mostItems}
 use Rattle.file.specs.declared.section.Section.{Section}
 use Rattle.file.specs.Section.{recordAt}
-use Rattle.numbers.specs.Item.{itemFrom}
+use Rattle.records.specs.Item.{itemFrom}
 use Rattle.survey.specs.Survey.{noItems, filledUp}
 use Rattle.survey.proofs.decode.items.Statement.{statement}
 use Rattle.survey.proofs.decode.items.Tie as tie

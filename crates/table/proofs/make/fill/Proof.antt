@@ -1,5 +1,4 @@
--- `table::make::fill` meets its contract: the rows in memory are the survey's net rows, so the verdict on them and the cells made of
--- them are the definition's. Assumes nothing.
+-- `table::make::fill` meets its contract: the rows in memory are the survey's net rows, so the verdict on them and the cells made of them are the definition's. Assumes nothing.
 use mathlib.Core.Path.{_∙_, ap}
 use mathlib.Core.List.{List}
 use Prim.Native.Nat.{ℕ}
@@ -19,37 +18,40 @@ use Rattle.table.proofs.make.fill.Tie as tie
 
 test-and-copy-requires : tie.Need-test-and-copy-requires
 test-and-copy-requires c κs =
-    let worked = c .before .before .before in
-    let start = worked .before .before .before in
+    let worked = c .before .before .before .before in
+    let counted = worked .before .before .before .before in
+    let start = counted .before .before in
     let v = start .args .v in
-    let rows = start .args .rows in
-    rw (worked .net-rows .ensures) (
-      simp length-append (omega (arith, length-rowsOf (netRow v) rows)),
-      omega (arith, start .pre .2),
-      λ i l. rw (front-row (netRow v) rows _ i l) (net-small v (heightOf v i) (start .pre .0)),
+    let n = counted .rows-in .result in
+    let rows = counted .rows-in .ensures in
+    rw (worked .net-rows .ensures, c .before .units .ensures) (
+      simp length-append (omega (arith, length-rowsOf (netRow v) n)),
+      omega (arith, rows .1),
+      omega (arith, start .pre .step-low),
+      rows .0,
+      λ i l. rw (front-row (netRow v) n _ i l) (net-small v (heightOf v i) (start .pre)),
     )
 
 returns : tie.Need-returns
 returns c =
     let tested = c .before .before in
-    let worked = tested .before .before .before .before in
-    let start = worked .before .before .before in
-    let v = start .args .v in
-    let rows = start .args .rows in
-    let table = start .args .table .now in
+    let measured = tested .before .before in
+    let worked = measured .before .before .before in
+    let counted = worked .before .before .before .before in
+    let v = counted .before .before .args .v in
+    let rows = counted .rows-in .result in
+    let table = counted .before .before .args .table .now in
     let net = worked .net-rows .ensures in
     let judged = tested .test-and-copy .result in (
-      tested .test-and-copy .ensures .0
-          ∙ ap (λ (n : List ℤ). verdict (rowTests (netOf n) rows (length table))) net
-          ∙ ap verdict (front-tests (netRow v) rows _ (length table))
-          ∙ ap (λ (r : ℕ). verdict (rowTests (netRow v) r (length table))) (start .pre .1),
+      (rw (measured .units .ensures) at (tested .test-and-copy .ensures .0))
+          ∙ ap (λ (n : List ℤ). verdict (rowTests (netOf n) (heightOf v) rows (length table))) net
+          ∙ ap verdict (front-tests (netRow v) (heightOf v) rows _ (length table))
+          ∙ ap (λ (r : ℕ). verdict (rowTests (netRow v) (heightOf v) r (length table))) (counted .rows-in .ensures .0),
       tested .test-and-copy .ensures .1
           ∙ ap (λ (n : List ℤ). leftBy judged (cellIn n) rows table) net
           ∙ front-left judged (netRow v) rows _ table
-          ∙ ap (λ (r : ℕ). leftBy judged (cellOf v) r table) (start .pre .1),
+          ∙ ap (λ (r : ℕ). leftBy judged (cellOf v) r table) (counted .rows-in .ensures .0),
     )
 
 pub fill-spec : {M : Type 1} → statement M
-fill-spec =
-    tie.close
-    (tie.spec (λ c. search needs) (λ c κs. search needs) (λ c. search needs) test-and-copy-requires (λ c. search needs) returns)
+fill-spec = tie.close (tie.spec (λ c κs. search needs) (λ c. search needs) (λ c κs. search needs) (λ c. search needs) (λ c κs. search needs) test-and-copy-requires (λ c. search needs) returns)

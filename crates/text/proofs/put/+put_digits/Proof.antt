@@ -2,97 +2,30 @@
 use Prim.Native.Nat.{ℕ, _<_}
 use native.Mathlib.Omega.{arith}
 use borrow.Author.Needs.{needs}
-use borrow.Fn.Kinds.{In}
 use borrow.Fn.PlainCycle.{Measures, is, falls, and}
 use Rattle.text.specs.DigitsLaws.{digits-one, digits-more}
 use Rattle.text.specs.PutLaws.{put-both}
 use Rattle.text.proofs.put.put_digits.Reads as put-digits
-use Rattle.text.proofs.put.put_digits.Kinds as put-digits-kinds
-use Rattle.text.proofs.put.+put_digits.Lts-put_digits as put-digits-lts
-use Rattle.text.proofs.put.put_digit.Reads as put-digit-reads
+use Rattle.text.proofs.put.put_digits.Kinds as kinds
+use Rattle.text.proofs.put.+put_digits.Lts-put_digits as lts
+use Rattle.text.proofs.put.put_digit.Reads as put-digit
 use Rattle.text.proofs.put.+put_digits.{statement}
 use Rattle.text.proofs.put.+put_digits.Tie.{close}
 
-abbrev μ-put-digits : Measures 1 put-digits-kinds.ps ℕ
-μ-put-digits κs a = a .1 .1 .0
-
-abbrev put-digits-at : ℕ → In 1 put-digits-kinds.ps
-put-digits-at t =
-    and 1 put-digits-kinds.ps (is 1 put-digits-kinds.ps μ-put-digits t) put-digits.Pre
-
-abbrev put-digits-below : ℕ → In 1 put-digits-kinds.ps
-put-digits-below t =
-    and 1 put-digits-kinds.ps (falls 1 put-digits-kinds.ps _<_ μ-put-digits t) put-digits.Pre
-
-put-digits-put-digit-requires : (t : ℕ) → put-digits-lts.Need-put-digit-requires (
-  put-digit-reads.Asked,
-  put-digit-reads.Learnt,
-  put-digits-below t,
-  put-digits.Post,
-) (put-digits-at t) put-digits.Post
-put-digits-put-digit-requires t c κs = tt
-
-put-digits-same-length : (t : ℕ) → put-digits-lts.Need-same-length (
-  put-digit-reads.Asked,
-  put-digit-reads.Learnt,
-  put-digits-below t,
-  put-digits.Post,
-) (put-digits-at t) put-digits.Post
-put-digits-same-length t c = search needs
-
-put-digits-returns : (t : ℕ) → put-digits-lts.Need-returns (
-  put-digit-reads.Asked,
-  put-digit-reads.Learnt,
-  put-digits-below t,
-  put-digits.Post,
-) (put-digits-at t) put-digits.Post
-put-digits-returns t c = rw (digits-one (c .before .before .before .before .before .before .args .n) (omega arith)) (c .before .before .put-digit .ensures)
-
-put-digits-put-digits-requires : (t : ℕ) → put-digits-lts.Need-put-digits-requires (
-  put-digit-reads.Asked,
-  put-digit-reads.Learnt,
-  put-digits-below t,
-  put-digits.Post,
-) (put-digits-at t) put-digits.Post
-put-digits-put-digits-requires t c κs = (omega arith, tt)
-
-put-digits-put-digit-requires-2 : (t : ℕ) → put-digits-lts.Need-put-digit-requires-2 (
-  put-digit-reads.Asked,
-  put-digit-reads.Learnt,
-  put-digits-below t,
-  put-digits.Post,
-) (put-digits-at t) put-digits.Post
-put-digits-put-digit-requires-2 t c κs = tt
-
-put-digits-same-length-2 : (t : ℕ) → put-digits-lts.Need-same-length-2 (
-  put-digit-reads.Asked,
-  put-digit-reads.Learnt,
-  put-digits-below t,
-  put-digits.Post,
-) (put-digits-at t) put-digits.Post
-put-digits-same-length-2 t c = search needs
-
-put-digits-returns-2 : (t : ℕ) → put-digits-lts.Need-returns-2 (
-  put-digit-reads.Asked,
-  put-digit-reads.Learnt,
-  put-digits-below t,
-  put-digits.Post,
-) (put-digits-at t) put-digits.Post
-put-digits-returns-2 t c = rw (digits-more (c .before .before .before .before .before .before .before .before .before .before .args .n) (omega arith)) (put-both (c .before .before .before .before .before .before .put-digits .ensures) (c .before .before .put-digit2 .ensures))
+abbrev μ : Measures 1 kinds.ps ℕ
+μ κs a = a .1 .1 .0
 
 pub +put-digits-spec : {M : Type 1} → statement M
-+put-digits-spec = close μ-put-digits λ t. put-digits-lts.spec (
-  put-digit-reads.Asked,
-  put-digit-reads.Learnt,
-  put-digits-below t,
-  put-digits.Post,
-)
-    (put-digits-at t)
++put-digits-spec = close μ λ t. lts.spec (put-digit.Asked, put-digit.Learnt, and 1 kinds.ps (falls 1 kinds.ps _<_ μ t) put-digits.Pre, put-digits.Post)
+    (and 1 kinds.ps (is 1 kinds.ps μ t) put-digits.Pre)
     put-digits.Post
-    (put-digits-put-digit-requires t)
-    (put-digits-same-length t)
-    (put-digits-returns t)
-    (put-digits-put-digits-requires t)
-    (put-digits-put-digit-requires-2 t)
-    (put-digits-same-length-2 t)
-    (put-digits-returns-2 t)
+    (λ c κs. tt)
+    (λ c. search needs)
+    (λ c. rw (digits-one (c .before .before .before .before .before .before .args .n) (omega arith)) (c .before .before .put-digit .ensures))
+    (λ c κs. (omega arith, tt))
+    (λ c κs. tt)
+    (λ c. search needs)
+    (λ c.
+    let tenth = c .before .before .before .before .before .before in
+    rw (digits-more (tenth .before .before .before .before .args .n) (omega arith))
+    (put-both (tenth .put-digits .ensures) (c .before .before .put-digit2 .ensures)))

@@ -19,10 +19,11 @@ abbrev μ-loop : tie.MeasureT-loop
 
 loop-again : tie.Need-loop-again Inv-loop μ-loop
 loop-again c =
-    let s = c .before .before .before .before .before .before .before .before .before .args .s .now in
-    let i = c .before .before .before .before .before .before .loop .i in
+    let looped = c .before .before .before .before .before .before in
+    let s = looped .before .before .before .args .s .now in
+    let i = looped .loop .i in
     let read : i < length s = omega arith in
-    (omega arith, rw (add-one i, take-suc s i 0 read) (put-both (c .before .before .before .before .before .before .loop .inv .1) (c .before .before .put-byte .ensures)))
+    (omega arith, rw (add-one i, take-suc s i 0 read) (put-both (looped .loop .inv .1) (c .before .before .put-byte .ensures)))
 
 returns : tie.Need-returns Inv-loop μ-loop
 returns c =

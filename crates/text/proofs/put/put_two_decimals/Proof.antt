@@ -5,7 +5,9 @@ use Rattle.text.proofs.put.put_two_decimals.Statement.{statement}
 use Rattle.text.proofs.put.put_two_decimals.Tie as tie
 
 returns : tie.Need-returns
-returns c = put-both (put-both (c .before .before .before .before .before .before .before .before .before .before .put-byte .ensures) (c .before .before .before .before .before .before .put-digit .ensures)) (c .before .before .put-digit2 .ensures)
+returns c =
+    let tenth = c .before .before .before .before .before .before in
+    put-both (put-both (tenth .before .before .before .before .put-byte .ensures) (tenth .put-digit .ensures)) (c .before .before .put-digit2 .ensures)
 
 pub put-two-decimals-spec : {M : Type 1} → statement M
 put-two-decimals-spec =
