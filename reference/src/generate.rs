@@ -21,6 +21,7 @@ pub mod seams;
 pub mod sound;
 
 use crate::format::Format;
+use crate::headers;
 use crate::limits::{COURSE_BYTES, DEADWOOD_BYTES, SEAM_BYTES};
 use crate::random::Random;
 use crate::rows::{row_count, MOST_ROWS};
@@ -67,6 +68,21 @@ pub fn old_case(seed: u64, number: u64) -> Vec<u8> {
     }
     let plan = old_plan(random);
     encoded(random, &plan)
+}
+
+/// The bytes of a header that no old survey has, for asking about case `number` of
+/// a seed: half of them edges, the others of any number of bits. They come of a
+/// source of their own, so that every kind of survey meets each of them.
+pub fn other_header(seed: u64, number: u64) -> u32 {
+    let random = &mut Random::for_case(!seed, number);
+    if random.one_in(2) {
+        return random.pick(&headers::EDGES);
+    }
+    let most = u32::MAX >> random.between(0, 31);
+    match random.between(0, most) {
+        48 => 49,
+        bytes => bytes,
+    }
 }
 
 /// A sound survey and a table long enough for it: most are accepted.

@@ -24,6 +24,7 @@ pub mod generate;
 pub mod given;
 pub mod gross;
 pub mod halves;
+pub mod headers;
 pub mod heights;
 pub mod limited;
 pub mod limits;

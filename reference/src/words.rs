@@ -16,8 +16,9 @@ use crate::sections::{self, Section, Sections};
 use crate::survey::{accepted_sums, parse, parse_numbers, sum_of_lengths, Survey};
 use crate::text::with_commas;
 
-/// The sentence for a survey file of a format and the refusal that it meets.
-/// Refusal 8 depends on the lent table and has none.
+/// The sentence for a survey file of a format and the refusal that it meets with
+/// a lent table of some length. The programs lend enough cells for every table,
+/// so they never come to that of refusal 8.
 pub fn of_survey(file: &[u8], format: Format, refusal: Refusal) -> Option<String> {
     let place = refusal.place as usize;
     let survey = || parse(file, format).ok();
@@ -33,9 +34,17 @@ pub fn of_survey(file: &[u8], format: Format, refusal: Refusal) -> Option<String
         6 => bad_lengths(&parse_numbers(file, format).ok()?),
         7 => bad_diameter(&survey()?),
         14 => long_cap(&survey()?),
+        8 => Some("lent table: must have a cell for each row".to_string()),
         9 => falling_row(&survey()?, place),
         _ => None,
     }
+}
+
+/// The sentence for a survey that is to be converted from a header of so many
+/// bytes, whatever its own are; none for the one header that old surveys have.
+pub fn of_old_header(bytes: u32) -> Option<String> {
+    let old = Format::Header48.header_bytes();
+    (bytes as usize != old).then(|| format!("old header of {bytes} bytes: must have {old}"))
 }
 
 /// The sentence for a height (refusal 12) or a volume (refusal 13) that was

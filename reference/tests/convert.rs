@@ -4,10 +4,13 @@
 mod common;
 
 use common::*;
-use reference::generate::old_case;
+use reference::counted::Tally;
+use reference::generate::{old_case, other_header};
+use reference::headers::OtherHeader;
 use reference::printed::{conversion, Written};
 use reference::rows::MOST_ROWS;
 use reference::survey::parse;
+use reference::words::of_old_header;
 use reference::{convert, make_table, make_table_of, Format, Refusal};
 use std::process::Output;
 
@@ -266,6 +269,33 @@ fn sentences() {
         let line = format!("refused {refusal}\n");
         assert_eq!(conversion(&file), written(line, &format!("{sentence}\n")));
     }
+}
+
+/// Any length of a header but that of old files is told.
+#[test]
+fn other_headers() {
+    assert_eq!(of_old_header(48), None);
+    for bytes in [0, 47, 49, 56, 304, 65_584, u32::MAX] {
+        let told = format!("old header of {bytes} bytes: must have 48");
+        assert_eq!(of_old_header(bytes), Some(told));
+    }
+}
+
+/// Generated ones are never that of old files; all edges are tried, and numbers of
+/// few digits and of many.
+#[test]
+fn generated_other_headers() {
+    let mut tally = Tally::default();
+    let mut digits = [0; 11];
+    for number in 0..2_000 {
+        let bytes = other_header(7, number);
+        assert_ne!(bytes, 48);
+        assert_eq!(bytes, other_header(7, number));
+        tally.add([OtherHeader::of_bytes(bytes)]);
+        digits[bytes.to_string().len()] += 1;
+    }
+    assert!(tally.least() > 100, "{tally:?}");
+    assert!(digits[1..].iter().all(|&count| count > 50), "{digits:?}");
 }
 
 /// There is a sentence for every refusal that an old file meets.

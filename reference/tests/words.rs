@@ -4,7 +4,7 @@ mod common;
 
 use common::*;
 use reference::printed::{Asked, Opened, Printed};
-use reference::{Format, Refusal};
+use reference::{make_table, words, Format, Refusal};
 
 /// The sentence for a refused survey.
 fn sentence(survey: &[u8]) -> String {
@@ -416,16 +416,41 @@ fn falling_rows() {
     );
 }
 
-/// A sentence stands only where the programs can meet the refusal.
+/// Of a table that is too short, before a row that falls and after all else.
+#[test]
+fn short_tables() {
+    let told = |survey: &[u8], cells| {
+        let refusal = make_table(survey, cells).err()?;
+        words::of_survey(survey, Format::TODAY, refusal)
+    };
+    let short = Some("lent table: must have a cell for each row".to_string());
+    let falling = PAPER.with_deadwood(&[(30_000, 40_000, 4_539)]);
+    for cells in [0, 1, 5] {
+        assert_eq!(told(&PAPER.survey(), cells), short);
+        assert_eq!(told(&falling, cells), short);
+        let long_caps = PAPER.headed(2, 25_001);
+        assert_eq!(told(&long_caps, cells), Some(sentence(&long_caps)));
+    }
+    for cells in [6, 7, usize::MAX] {
+        assert_eq!(told(&PAPER.survey(), cells), None);
+        assert_eq!(told(&falling, cells), Some(sentence(&falling)));
+    }
+}
+
+/// A sentence stands only where a survey or a lookup in its table can meet the
+/// refusal.
 #[test]
 fn no_sentence() {
-    for number in [8, 10, 11] {
+    for number in [10, 11, 12, 13] {
         let refusal = Refusal { number, place: 0 };
         assert_eq!(
-            reference::words::of_survey(&PAPER.survey(), Format::TODAY, refusal),
+            words::of_survey(&PAPER.survey(), Format::TODAY, refusal),
             None
         );
-        assert_eq!(reference::words::of_lookup(0, refusal, 50_000, 0), None);
+    }
+    for number in [8, 10, 11] {
+        let refusal = Refusal { number, place: 0 };
+        assert_eq!(words::of_lookup(0, refusal, 50_000, 0), None);
     }
 }
 

@@ -39,6 +39,30 @@ pub struct ConvertedAnswer {
     pub file: [u8; MOST_BYTES],
 }
 
+/// The bytes that an answer in words has room for.
+pub const MOST_WORDS: usize = 256;
+
+/// What a survey is refused for, in words, and their length: 0 where there are none.
+/// Bytes behind the length are 0.
+#[repr(C)]
+#[derive(Clone, Copy, Debug, PartialEq, Eq)]
+pub struct WordsAnswer {
+    pub length: u32,
+    pub text: [u8; MOST_WORDS],
+}
+
+impl WordsAnswer {
+    /// The answer with these words.
+    pub fn of(words: &str) -> WordsAnswer {
+        let mut text = [0; MOST_WORDS];
+        text[..words.len()].copy_from_slice(words.as_bytes());
+        WordsAnswer {
+            length: words.len() as u32,
+            text,
+        }
+    }
+}
+
 #[link(name = "capi", kind = "static")]
 extern "C" {
     fn milechime_table(
@@ -65,6 +89,12 @@ extern "C" {
     ) -> LookupAnswer;
 
     fn milechime_convert_48(survey: *const u8, survey_length: usize) -> ConvertedAnswer;
+
+    fn milechime_words(survey: *const u8, survey_length: usize, table_length: usize)
+        -> WordsAnswer;
+
+    fn milechime_convert_words(survey: *const u8, survey_length: usize, header: u32)
+        -> WordsAnswer;
 }
 
 /// Makes the table of a survey.
@@ -97,4 +127,16 @@ pub fn height(dh: u32, step: u32, table: &[u32], volume: u32) -> LookupAnswer {
 pub fn convert_48(survey: &[u8]) -> ConvertedAnswer {
     // SAFETY: pointer and length are those of a slice.
     unsafe { milechime_convert_48(survey.as_ptr(), survey.len()) }
+}
+
+/// What a survey with a table of so many cells is refused for, in words.
+pub fn words(survey: &[u8], table_length: usize) -> WordsAnswer {
+    // SAFETY: pointer and length are those of a slice.
+    unsafe { milechime_words(survey.as_ptr(), survey.len(), table_length) }
+}
+
+/// What a survey with a header of so many bytes is not converted for, in words.
+pub fn convert_words(survey: &[u8], header: u32) -> WordsAnswer {
+    // SAFETY: pointer and length are those of a slice.
+    unsafe { milechime_convert_words(survey.as_ptr(), survey.len(), header) }
 }

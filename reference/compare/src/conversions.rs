@@ -1,18 +1,26 @@
 //! Old surveys: the whole answer of the converter, every byte of its file, the
-//! table of that file, and what `tankconvert` writes.
+//! table of that file, the words for a refusal and for a header that no old survey
+//! has, and what `tankconvert` writes.
 
 use crate::run::Runs;
 use crate::seen::{print_tally, Seen, Sentences};
 use crate::surveys::{cells, keep};
+use crate::words::Words;
 use compare::calls::{self, ConvertedAnswer, TableAnswer, MOST_BYTES};
 use reference::conversions::Conversion;
 use reference::counted::Tally;
-use reference::generate::old_case;
+use reference::generate::{old_case, other_header};
+use reference::headers::OtherHeader;
 use reference::printed::conversion;
 use reference::random::Random;
 use reference::rows::MOST_ROWS;
-use reference::{convert, make_table_of, Format, Table};
+use reference::words::of_old_header;
+use reference::{convert, make_table_of, Format, Refusal, Table};
 use std::path::Path;
+
+/// The refusals that an old survey can bring: 8 is not among them, there is room
+/// enough for every table.
+const REFUSALS: [u32; 9] = [1, 2, 3, 4, 5, 6, 7, 9, 14];
 
 /// How many sentences an old survey can bring: those of all surveys but the nine
 /// on seams, and but the two of lookups.
@@ -25,12 +33,14 @@ pub struct Comparison<'a> {
     refusals: Seen,
     conversions: Tally<Conversion>,
     sentences: Sentences,
+    /// The words for old surveys, and the headers of other lengths that were asked about.
+    words: Words,
+    headers: Tally<OtherHeader>,
     mismatches: u64,
 }
 
 impl Comparison<'_> {
-    /// Refusal 8 is not among those that can occur: there is room enough for
-    /// every table.
+    /// Nothing yet.
     pub fn new<'a>(program: &'a Path, folder: &'a Path) -> Comparison<'a> {
         Comparison {
             program,
@@ -39,9 +49,12 @@ impl Comparison<'_> {
                 "given-old.survey",
                 Box::new(|line| println!("{line}")),
             ),
-            refusals: Seen::new([1, 2, 3, 4, 5, 6, 7, 9, 14]),
+            refusals: Seen::new(REFUSALS),
             conversions: Tally::default(),
             sentences: Sentences::new(SENTENCES),
+            // One more than surveys bring: that of a header.
+            words: Words::new(REFUSALS, SENTENCES + 1),
+            headers: Tally::default(),
             mismatches: 0,
         }
     }
@@ -54,6 +67,7 @@ impl Comparison<'_> {
             let old = old_case(seed, number);
             let before = self.mismatches();
             let reference = self.library(&old);
+            self.words(&old, &reference, other_header(seed, number));
             accepted += u64::from(reference.refusal == 0);
             if reference.refusal != 0 || accepted <= most_accepted {
                 self.program(&old, &mut Random::for_case(seed, number));
@@ -77,7 +91,9 @@ impl Comparison<'_> {
         let conversions = print_tally("old surveys by what is converted", &self.conversions);
         let sentences = self.sentences.print("sentences for old surveys");
         println!("runs of the converter: {}", self.runs.count());
-        refusals && conversions && sentences
+        let words = self.words.print("old surveys");
+        let headers = print_tally("words for headers of other lengths", &self.headers);
+        refusals && conversions && sentences && words && headers
     }
 
     /// The library's converter, and the table of the file that it gives. Returns
@@ -111,6 +127,25 @@ impl Comparison<'_> {
             println!("  ours      {answer:?}");
             println!("  reference {:?}", answer_of(&table));
         }
+    }
+
+    /// The words for an old survey, given the reference's answer, and those for its
+    /// bytes with a header of another length.
+    fn words(&mut self, old: &[u8], reference: &ConvertedAnswer, other: u32) {
+        let format = Format::Header48;
+        let refusal = (reference.refusal != 0).then_some(Refusal {
+            number: reference.refusal,
+            place: reference.place,
+        });
+        let ours = calls::convert_words(old, format.header_bytes() as u32);
+        let same = self.words.same(&ours, old, format, refusal);
+        self.mismatches += u64::from(!same);
+
+        let ours = calls::convert_words(old, other);
+        let sentence = of_old_header(other).expect("no old survey has this header");
+        let same = self.words.same_sentence(&ours, &sentence);
+        self.headers.add([OtherHeader::of_bytes(other)]);
+        self.mismatches += u64::from(!same);
     }
 
     /// What the program writes.

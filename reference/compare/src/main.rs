@@ -1,14 +1,15 @@
 //! Runs the proved library and the reference over the same generated cases and
 //! compares every number of every answer, every cell of every lent table, every
-//! byte of every converted file, and what the programs write on standard output
-//! and on standard error.
+//! byte of every converted file and of the words for every refusal, and what the
+//! programs write on standard output and on standard error.
 //!
 //! `compare TANKTABLE TANKLOOKUP TANKCONVERT FOLDER`: the paths of the programs,
 //! and a folder for the survey given by `-f` and those on which the two differ.
 //! Ends with 1 if they differ anywhere, if a table of the library's breaks request E7's
 //! law on mirrored rows, or if a refusal, a sentence, a miss of the course lengths, an
-//! edge of spherical caps, of seams or of conversions, an exact half, a row below zero
-//! or a difference of mirrored rows that can occur was seen too seldom.
+//! edge of spherical caps, of seams, of conversions or of headers of other lengths, an
+//! exact half, a row below zero or a difference of mirrored rows that can occur was seen
+//! too seldom.
 //!
 //! What `tanktable` and `tanklookup` write takes about as long to compare as all the
 //! rest, so that has a thread of its own. It prints nothing: what it finds is printed
@@ -21,6 +22,7 @@ mod run;
 mod seen;
 mod surveys;
 mod turned;
+mod words;
 
 use printed::{Comparison, Programs};
 use std::panic::resume_unwind;

@@ -30,11 +30,16 @@ impl Seen {
 
     /// Prints the counts, and says whether each was seen often enough.
     pub fn print(&self, what: &str) -> bool {
+        self.print_with("accepted", what)
+    }
+
+    /// The same with a name of its own for an answer without a refusal.
+    pub fn print_with(&self, without: &str, what: &str) -> bool {
         println!("{what}: {} compared", self.counts.values().sum::<u64>());
         let mut often_enough = true;
         for (&refusal, &count) in &self.counts {
             let name = match refusal {
-                0 => "accepted".to_string(),
+                0 => without.to_string(),
                 _ => format!("refusal {refusal}"),
             };
             let too_few = count < ENOUGH;
@@ -63,7 +68,7 @@ pub fn print_tally<T: Counted>(what: &str, tally: &Tally<T>) -> bool {
     tally.least() >= ENOUGH
 }
 
-/// The sentences on standard error, each with its numbers left out.
+/// The sentences on standard error or in answers, each with its numbers left out.
 pub struct Sentences {
     counts: BTreeMap<String, u64>,
     /// How many there are.
@@ -79,9 +84,9 @@ impl Sentences {
         }
     }
 
-    /// Counts every line of a standard error.
-    pub fn add(&mut self, error: &str) {
-        for line in error.lines() {
+    /// Counts every line of a standard error, or an answer's words, if any.
+    pub fn add(&mut self, told: &str) {
+        for line in told.lines() {
             *self.counts.entry(without_numbers(line)).or_default() += 1;
         }
     }

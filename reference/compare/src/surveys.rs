@@ -1,7 +1,8 @@
-//! Surveys: the whole answer, and every lent cell.
+//! Surveys: the whole answer, every lent cell, and the words for a refusal.
 
 use crate::seen::{print_tally, Seen};
 use crate::turned::Turned;
+use crate::words::Words;
 use compare::calls::{self, TableAnswer};
 use reference::below_zero::BelowZero;
 use reference::caps::Cap;
@@ -20,6 +21,11 @@ use std::path::Path;
 
 /// Cells before and behind the lent table, which no call may touch.
 const AROUND: usize = 8;
+
+/// The refusals that a survey with its table can bring, and how many sentences: those
+/// that the programs have but for the two of lookups, and that of a short table.
+const REFUSALS: [u32; 10] = [1, 2, 3, 4, 5, 6, 7, 8, 9, 14];
+const SENTENCES: usize = 36;
 
 /// What a program answers, and the memory that it was lent with what stands
 /// around it.
@@ -50,13 +56,14 @@ pub struct Tried {
     falls: Tally<Fall>,
     below_zero: Tally<BelowZero>,
     turned: Turned,
+    words: Words,
 }
 
 impl Tried {
     /// None yet.
     pub fn new() -> Tried {
         Tried {
-            refusals: Seen::new((1..=9).chain([14])),
+            refusals: Seen::new(REFUSALS),
             misses: Tally::default(),
             caps: Tally::default(),
             rises: Tally::default(),
@@ -64,6 +71,7 @@ impl Tried {
             falls: Tally::default(),
             below_zero: Tally::default(),
             turned: Turned::new(),
+            words: Words::new(REFUSALS, SENTENCES),
         }
     }
 
@@ -97,7 +105,8 @@ impl Tried {
         let falls = print_tally("surveys with exact halves at a fall", &self.falls);
         let below_zero = print_tally("surveys with a net row below zero", &self.below_zero);
         let turned = self.turned.print();
-        refusals && misses && caps && rises && halves && falls && below_zero && turned
+        let words = self.words.print("surveys");
+        refusals && misses && caps && rises && halves && falls && below_zero && turned && words
     }
 }
 
@@ -110,11 +119,8 @@ pub fn compare(seed: u64, cases: u64, folder: &Path, tried: &mut Tried) -> u64 {
         let tank = lay_out(&case.survey, Format::TODAY, case.table_len);
         let made = tank.as_ref().map_err(|&refusal| refusal);
         let made = made.and_then(table_of_tank);
-        tried.add(
-            &case.survey,
-            tank.as_ref().ok(),
-            made.as_ref().err().copied(),
-        );
+        let refusal = made.as_ref().err().copied();
+        tried.add(&case.survey, tank.as_ref().ok(), refusal);
         let reference = outcome(&case, |_, table| by_reference(made, table));
         // If the two differ in the row count, no cell can be said to be a certain row.
         let forbidden = match &tank {
@@ -129,6 +135,15 @@ pub fn compare(seed: u64, cases: u64, folder: &Path, tried: &mut Tried) -> u64 {
             report(seed, number, &ours, &reference);
             report_forbidden(forbidden);
             keep(folder, &format!("survey-{seed}-{number}"), &case.survey);
+        }
+        let words = calls::words(&case.survey, case.table_len);
+        let same = tried
+            .words
+            .same(&words, &case.survey, Format::TODAY, refusal);
+        if !same {
+            mismatches += 1;
+            println!("  of the survey with seed {seed}, number {number}");
+            keep(folder, &format!("words-{seed}-{number}"), &case.survey);
         }
     }
     mismatches

@@ -2,7 +2,8 @@
 //! paper's example.
 
 use compare::calls::{
-    convert_48, height, litres, table, ConvertedAnswer, LookupAnswer, TableAnswer, MOST_BYTES,
+    convert_48, convert_words, height, litres, table, words, ConvertedAnswer, LookupAnswer,
+    TableAnswer, WordsAnswer, MOST_BYTES, MOST_WORDS,
 };
 
 const DH: u32 = 50_000;
@@ -134,4 +135,68 @@ fn the_largest_old_survey() {
     assert_eq!(made.length as usize, MOST_BYTES);
     assert_eq!(made.file[56..56 + old.len() - 48], old[48..]);
     assert_eq!(made.file[MOST_BYTES - 480..], [0; 480]);
+}
+
+#[track_caller]
+fn says(answer: WordsAnswer, words: &str) {
+    assert_eq!(answer, WordsAnswer::of(words));
+}
+
+#[test]
+fn no_words_are_zeros() {
+    let none = WordsAnswer {
+        length: 0,
+        text: [0; MOST_WORDS],
+    };
+    assert_eq!(words(&paper(), 6), none);
+    assert_eq!(words(&paper(), usize::MAX), none);
+    assert_eq!(convert_words(&old_paper(), 48), none);
+}
+
+#[test]
+fn words_for_surveys() {
+    says(words(&[], 0), "file of 0 bytes: must have 56 to 65536");
+    says(
+        words(&[0; 70_000], 6),
+        "file of more than 65536 bytes: must have 56 to 65536",
+    );
+    for cells in [0, 5] {
+        says(
+            words(&paper(), cells),
+            "lent table: must have a cell for each row",
+        );
+    }
+}
+
+#[test]
+fn words_for_old_surveys() {
+    says(
+        convert_words(&[], 48),
+        "file of 0 bytes: must have 48 to 65536",
+    );
+    let mut low = old_paper();
+    low[4..8].copy_from_slice(&49_999u32.to_le_bytes());
+    says(
+        convert_words(&low, 48),
+        "dip diameter DH 49999 (499.99 mm): must be 50000 to 500000",
+    );
+    for old in [vec![], low, old_paper(), vec![0; 70_000]] {
+        for header in [0, 47, 49, 56, u32::MAX] {
+            let told = format!("old header of {header} bytes: must have 48");
+            says(convert_words(&old, header), &told);
+        }
+    }
+}
+
+/// A byte behind the words makes another answer, and so does their length.
+#[test]
+fn what_stands_behind_the_words() {
+    for at in [3, MOST_WORDS - 1] {
+        let mut answer = WordsAnswer::of("row");
+        answer.text[at] = 1;
+        assert_ne!(answer, WordsAnswer::of("row"));
+    }
+    let mut answer = WordsAnswer::of("row");
+    answer.length = 2;
+    assert_ne!(answer, WordsAnswer::of("row"));
 }
