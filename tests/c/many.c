@@ -1,5 +1,7 @@
 #include "many.h"
 
+#include "check.h"
+
 #include "lent.h"
 #include "paper.h"
 #include "says.h"
@@ -78,4 +80,11 @@ void ask_many(struct tally *tally, const uint8_t *survey, size_t survey_length, 
         }
         put(changed, at, number_at(survey, at));
     }
+}
+
+void check_many(const struct tally *tally, const char *exactly, uint32_t met, const char *each)
+{
+    check(tally->exactly, exactly);
+    check(tally->same, "and else words of the refusal that it gives, of 9 with its row");
+    check(tally->met == met, each);
 }

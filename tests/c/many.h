@@ -25,6 +25,10 @@ struct tally {
 /* Before the first survey. */
 struct tally nothing_asked(void);
 
+/* The three checks of what was asked: that words come exactly with a refusal, as
+ * `exactly` says it; that they are of that refusal; and which refusals were met. */
+void check_many(const struct tally *tally, const char *exactly, uint32_t met, const char *each);
+
 void ask_many(struct tally *tally, const uint8_t *survey, size_t survey_length, size_t table_length, asks *ask);
 
 #endif

@@ -119,9 +119,8 @@ static void many_surveys(void)
         for (size_t j = 0; j < sizeof lengths / sizeof lengths[0]; j++)
             ask_many(&tally, surveys[i], sizeof surveys[i], lengths[j], ask);
     }
-    check(tally.exactly, "many surveys and four lengths of table: no words exactly where milechime_table refuses nothing");
-    check(tally.same, "and else words of the refusal that it gives, of 9 with its row");
-    check(tally.met == (0x3FF | 1u << 14), "each of 1 to 9 and 14 among them, and none");
+    check_many(&tally, "many surveys and four lengths of table: no words exactly where milechime_table refuses nothing",
+               0x3FF | 1u << 14, "each of 1 to 9 and 14 among them, and none");
 }
 
 void words_checks(void)

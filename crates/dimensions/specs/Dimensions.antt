@@ -13,7 +13,7 @@ use Rattle.file.specs.Word.{word}
 use Rattle.file.specs.Layout.{leftAt, rightAt, firstIn, secondIn, lengthIn, thicknessIn}
 use Rattle.file.specs.Section.{courses, recordAt}
 use Rattle.readings.specs.Reading.{riseOf, corrected}
-use Rattle.dimensions.specs.declared.dimensions.Sums.{Sums}
+use Rattle.dimensions.specs.declared.sums.Sums.{Sums}
 
 -- how far the course lengths together may lie from L1, for each course
 abbrev pub courseAllowance : ℕ

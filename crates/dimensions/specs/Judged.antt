@@ -10,7 +10,7 @@ use Rattle.heads.specs.Length.{fitsDiameter}
 use Rattle.file.specs.declared.format.Format.{Format}
 use Rattle.file.specs.Word.{word}
 use Rattle.file.specs.Layout.{dhAt, leftAt, rightAt}
-use Rattle.dimensions.specs.declared.dimensions.Sums.{Sums}
+use Rattle.dimensions.specs.declared.sums.Sums.{Sums}
 use Rattle.dimensions.specs.declared.dimensions.Dimensions.{Dimensions}
 use Rattle.dimensions.specs.Dimensions.{shellDiameter, headDiameter, d1, d2}
 use Rattle.dimensions.specs.Tests.{diameterTests, headLengthTest}

@@ -17,7 +17,7 @@ use Rattle.readings.specs.Reading.{riseOf, corrected}
 use Rattle.readings.specs.CourseLaws.{CourseFits, CoursesFit}
 use Rattle.readings.specs.FitLaws.{NumbersFit, as-they-stand, courses-fit}
 use Rattle.numbers.specs.FitLaws.{ends-fit}
-use Rattle.dimensions.specs.declared.dimensions.Sums.{Sums}
+use Rattle.dimensions.specs.declared.sums.Sums.{Sums}
 use Rattle.dimensions.specs.Dimensions.{sumOf, sumsOver, sumsOf, outerDiameter, shellDiameter, headDiameter, d1, d2}
 
 -- the largest that a course adds

@@ -8,7 +8,7 @@ use Rattle.laws.specs.OrderLaws.{same-order}
 use Rattle.refusal.specs.Test.{near}
 use Rattle.refusal.specs.TestLaws.{near-within}
 use Rattle.heads.specs.declared.kind.HeadKind.the-variants.{SphericalCap}
-use Rattle.dimensions.specs.declared.dimensions.Sums.{Sums}
+use Rattle.dimensions.specs.declared.sums.Sums.{Sums}
 use Rattle.dimensions.specs.Dimensions.{allowance}
 use Rattle.dimensions.specs.Tests.{lengthsTest, headLengthTest}
 

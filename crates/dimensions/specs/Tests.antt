@@ -11,7 +11,7 @@ use Rattle.heads.specs.Length.{fitsDiameter}
 use Rattle.file.specs.declared.format.Format.{Format}
 use Rattle.file.specs.Word.{word}
 use Rattle.file.specs.Layout.{kindAt, dhAt, l1At, l3At}
-use Rattle.dimensions.specs.declared.dimensions.Sums.{Sums}
+use Rattle.dimensions.specs.declared.sums.Sums.{Sums}
 use Rattle.dimensions.specs.Dimensions.{sumsOf, allowance, d1, d2, diameterFits}
 
 -- refusal 6: the lengths' sum and L1 differ by no more than the allowance, either way

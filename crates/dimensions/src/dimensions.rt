@@ -1,8 +1,7 @@
-// The sums over the courses, and D1 and D2 made of them.
+// D1 and D2 from the sums over the courses, and their tests.
 ghost use mathlib.Core.Path.{_≡_};
 ghost use mathlib.Core.List.{[], _∷_};
 ghost use Prim.Native.Nat.{_+_, _*_, _^_, _≤_, _<_};
-ghost use lib.ListN.{length};
 ghost use Rattle.laws.specs.Order.{pick};
 ghost use Rattle.measure.specs.Diameter.{smallest, largest};
 ghost use Rattle.measure.specs.Pi.{piUnder};
@@ -10,29 +9,19 @@ ghost use Rattle.measure.specs.Quantity.{diameter};
 ghost use Rattle.refusal.specs.Test.{verdict, refusalOf};
 ghost use Rattle.tank.specs.Limits.{longestShell};
 ghost use Rattle.file.specs.Limits.{mostCourses};
-ghost use Rattle.file.specs.Layout.{courseEnd};
-ghost use Rattle.file.specs.SectionLaws.{Readable};
-ghost use Rattle.readings.specs.CourseLaws.{CourseFits};
-ghost use Rattle.readings.specs.FitLaws.{NumbersFit};
-ghost use Rattle.dimensions.specs.Dimensions.{sumOf, added, sumsOf, allowance, outerDiameter, wall, shellDiameter, headDiameter, diameterFits};
+ghost use Rattle.dimensions.specs.Dimensions.{allowance, outerDiameter, wall, shellDiameter, headDiameter, diameterFits};
 ghost use Rattle.dimensions.specs.Tests.{lengthsTest, diameterTest, diameterTests};
 ghost use Rattle.dimensions.specs.Judged.{judgedWith, headsTested};
 ghost use Rattle.dimensions.specs.SumLaws.{SumsSmall};
+use crate::sums::Sums;
 use arith::less::less;
 use arith::nearest::nearest_quotient;
-use file::format::Format;
-use file::layout;
-use file::section::courses;
-use file::section::record_at;
-use file::word::word;
 use heads::kind::HeadKind;
 use heads::length::fits_diameter;
 use measure::diameter::Diameter;
 use measure::diameter::Measured;
 use measure::pi::PI_OVER;
 use measure::pi::PI_UNDER;
-use readings::reading::corrected_at;
-use readings::reading::rise_of;
 use refusal::Refusal;
 use refusal::Verdict;
 use refusal::about_of;
@@ -49,70 +38,10 @@ const COURSE_ALLOWANCE: u64 = 100;
 // How far a diameter may lie from DH.
 const FARTHEST: u64 = 10_000;
 
-// What the dimensions are made of, summed over courses.
-pub struct Sums {
-    // (first + second circumference) · length
-    pub readings: u64,
-    pub lengths: u64,
-    pub thicknesses: u64,
-    pub count: u64,
-}
-
 // DH, D1 and D2 of a file; or its refusal.
 pub enum Dimensions {
     Found(Diameter, Diameter, Diameter),
     Refused(Refusal),
-}
-
-// What the course at a byte adds, its circumferences having lost the tape rise.
-fn sum_of(s: &[u8], at: usize, rise: u64) -> Sums
-    requires { ⌜ (at + courseEnd ≤ length (now s)) × CourseFits (now s) at rise ⌝ }
-    ensures { λ r. ⌜ r ≡ sumOf (now (s .entry)) at rise ⌝ }
-{
-    let first = corrected_at(s, at + layout::FIRST_CIRCUMFERENCE, rise);
-    let second = corrected_at(s, at + layout::SECOND_CIRCUMFERENCE, rise);
-    let length = word(s, at + layout::COURSE_LENGTH) as u64;
-    let thickness = word(s, at + layout::THICKNESS) as u64;
-    Sums {
-        readings: (first + second) * length,
-        lengths: length,
-        thicknesses: thickness,
-        count: 1,
-    }
-}
-
-fn add(t: Sums, u: Sums) -> Sums
-    requires { ⌜ SumsSmall t × SumsSmall u ⌝ }
-    ensures { λ r. ⌜ r ≡ added t u ⌝ }
-{
-    Sums {
-        readings: t.readings + u.readings,
-        lengths: t.lengths + u.lengths,
-        thicknesses: t.thicknesses + u.thicknesses,
-        count: t.count + u.count,
-    }
-}
-
-// Over all courses of a file that passes refusals 1 to 5.
-pub(crate) fn file_sums(f: Format, s: &[u8]) -> Sums
-    requires { ⌜ Readable f × NumbersFit f (now s) ⌝ }
-    ensures { λ r. ⌜ r ≡ sumsOf f (now (s .entry)) ⌝ }
-    ensures { λ r. ⌜ SumsSmall r × (1 ≤ r .lengths) × (1 ≤ r .count) ⌝ }
-{
-    let x = courses(f, s);
-    let count = x.count;
-    let mut t = Sums {
-        readings: 0,
-        lengths: 0,
-        thicknesses: 0,
-        count: 0,
-    };
-    let mut i: usize = 0;
-    while i < count {
-        t = add(t, sum_of(s, record_at(x, i), rise_of(f, s, i)));
-        i += 1;
-    }
-    t
 }
 
 // How far the lengths may lie from L1.

@@ -11,20 +11,19 @@ use Rattle.text.specs.Ascii.{ascii}
 use Rattle.text.specs.Digits.{digits, minusOf}
 use Rattle.text.specs.Grouped.{grouped}
 
-abbrev pub signedDigits : ℤ → List ℕ
-signedDigits z = minusOf z ++ digits (natAbs z)
-
-abbrev pub signedGrouped : ℤ → List ℕ
-signedGrouped z = minusOf z ++ grouped (natAbs z)
+-- a number with its sign: as hundredths in threes, or its digits
+abbrev pub signed : Bool → ℤ → List ℕ
+signed true z = minusOf z ++ grouped (natAbs z)
+signed false z = minusOf z ++ digits (natAbs z)
 
 -- a blank filled in: # the item's number, $ the value, ~ the value as hundredths, < the low limit, > the high one; any other byte is itself
 unfoldable pub filledIn : About → ℕ → List ℕ
 filledIn x b =
     pick (eqb b (code "#")) (digits (x .item))
-    (pick (eqb b (code "$")) (signedDigits (x .value))
-    (pick (eqb b (code "~")) (signedGrouped (x .value))
-    (pick (eqb b (code "<")) (signedDigits (x .low))
-    (pick (eqb b (code ">")) (signedDigits (x .high)) (b ∷ [])))))
+    (pick (eqb b (code "$")) (signed false (x .value))
+    (pick (eqb b (code "~")) (signed true (x .value))
+    (pick (eqb b (code "<")) (signed false (x .low))
+    (pick (eqb b (code ">")) (signed false (x .high)) (b ∷ [])))))
 
 unfoldable pub filled : About → List ℕ → List ℕ
 filled x [] = []

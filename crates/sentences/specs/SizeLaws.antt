@@ -4,7 +4,7 @@ use Prim.Native.Nat.{ℕ, zero, suc, _+_, _^_, _≤_, _<_}
 use Prim.Native.Char.{code}
 use Prim.Native.String.{String}
 use mathlib.Core.Path.{_≡_, refl}
-use mathlib.Core.Bool.{Bool, true, _&&_}
+use mathlib.Core.Bool.{Bool, true, false, _&&_}
 use mathlib.Core.List.{List, [], _∷_}
 use native.Mathlib.Omega.{arith}
 use borrow.Author.Tests.{ltb-true}
@@ -19,7 +19,7 @@ use Rattle.refusal.specs.declared.About.{About}
 use Rattle.text.specs.Ascii.{ascii}
 use Rattle.text.specs.DigitsLaws.{digits-at-most, digits-of-64, minus-at-most}
 use Rattle.text.specs.GroupedLaws.{grouped-of-64}
-use Rattle.sentences.specs.Blanks.{signedDigits, signedGrouped, filledIn, filled}
+use Rattle.sentences.specs.Blanks.{signed, filledIn, filled}
 use Rattle.sentences.specs.Sentences.{sentences, sentenceOf, words, wordsLine, wordsSize}
 
 -- the blanks of a sentence
@@ -33,10 +33,10 @@ pub record BlanksFit (x : About) : Type 0 where
 abbrev pub heaviestBlank : ℕ
 heaviestBlank = 27
 
-signed-size : (z : ℤ) → mag z < 2 ^ 63 → length (signedDigits z) ≤ 20
+signed-size : (z : ℤ) → mag z < 2 ^ 63 → length (signed false z) ≤ 20
 signed-size z h = simp length-append (omega (arith, minus-at-most z, digits-of-64 (natAbs z) (omega (arith, natAbs-at-most z))))
 
-grouped-size : (z : ℤ) → mag z < 2 ^ 63 → length (signedGrouped z) ≤ heaviestBlank
+grouped-size : (z : ℤ) → mag z < 2 ^ 63 → length (signed true z) ≤ heaviestBlank
 grouped-size z h = simp length-append (omega (arith, minus-at-most z, grouped-of-64 (natAbs z) (omega (arith, natAbs-at-most z))))
 
 -- # is the number of a record or row; ~ a number in threes; $, < and > are numbers

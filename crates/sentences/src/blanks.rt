@@ -3,7 +3,7 @@ ghost use mathlib.Core.Path.{_≡_};
 ghost use Prim.Native.Nat.{_<_};
 ghost use lib.ListN.{drop};
 ghost use Rattle.text.specs.Put.{Put};
-ghost use Rattle.sentences.specs.Blanks.{signedDigits, signedGrouped, filledIn};
+ghost use Rattle.sentences.specs.Blanks.{signed, filledIn};
 ghost use Rattle.sentences.specs.Text.{behindLines};
 ghost use Rattle.sentences.specs.TextLaws.{linesLeft, lineFrom};
 use refusal::About;
@@ -13,18 +13,15 @@ use text::put::put_digits;
 use text::put::put_minus;
 use text::put::size;
 
-fn put_signed(out: &mut [u8], at: usize, z: i64) -> usize
-    ensures { λ r. ⌜ Put at (signedDigits z) (now (out .entry)) (now (out .exit)) r ⌝ }
+// A number with its sign; as hundredths in threes, or its digits.
+fn put_signed(out: &mut [u8], at: usize, z: i64, as_hundredths: bool) -> usize
+    ensures { λ r. ⌜ Put at (signed «as_hundredths» z) (now (out .entry)) (now (out .exit)) r ⌝ }
 {
     let signed = put_minus(out, at, z);
+    if as_hundredths {
+        return put_grouped(out, signed, size(z));
+    }
     put_digits(out, signed, size(z))
-}
-
-fn put_signed_grouped(out: &mut [u8], at: usize, z: i64) -> usize
-    ensures { λ r. ⌜ Put at (signedGrouped z) (now (out .entry)) (now (out .exit)) r ⌝ }
-{
-    let signed = put_minus(out, at, z);
-    put_grouped(out, signed, size(z))
 }
 
 // A byte of a sentence: a blank, or itself.
@@ -35,16 +32,16 @@ fn put_filled_in(out: &mut [u8], at: usize, x: About, b: u8) -> usize
         return put_digits(out, at, x.item as u64);
     }
     if b == b'$' {
-        return put_signed(out, at, x.value);
+        return put_signed(out, at, x.value, false);
     }
     if b == b'~' {
-        return put_signed_grouped(out, at, x.value);
+        return put_signed(out, at, x.value, true);
     }
     if b == b'<' {
-        return put_signed(out, at, x.low);
+        return put_signed(out, at, x.low, false);
     }
     if b == b'>' {
-        return put_signed(out, at, x.high);
+        return put_signed(out, at, x.high, false);
     }
     put_byte(out, at, b)
 }

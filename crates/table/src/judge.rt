@@ -17,10 +17,10 @@ fn rows_judged(v: Survey, cells: usize) -> Verdict
     ensures { λ r. ⌜ r ≡ verdict (tableTests v cells) ⌝ }
 {
     let rows = rows_in(v);
-    let tank = v.tank;
-    let dip_point = tank.dh;
     let mut net = [0i64; MOST_ROWS];
     net_rows(v, rows, &mut net);
+    let tank = v.tank;
+    let dip_point = tank.dh;
     rows_tested(&net, dip_point.units(), v.step, rows, cells)
 }
 

@@ -23,21 +23,21 @@ unfolding filledIn
 returns-3 c =
     let test = c .before .before .before .before .before in
     let plain = toZ-ofZ w64 (test .before .before .before .before .args .x .value) (record { sfits = c .before .before .before .struct-told2 .given .1 .1 .0 .1 }) in
-    rw (ne-eqb _ _ (test .before .before .if1 .left), ne-eqb _ _ (test .before .if2 .left), eq-eqb _ _ (test .if3 .taken)) (rw plain at (c .before .before .put-signed-grouped .ensures))
+    rw (ne-eqb _ _ (test .before .before .if1 .left), ne-eqb _ _ (test .before .if2 .left), eq-eqb _ _ (test .if3 .taken)) (rw plain at (c .before .before .put-signed2 .ensures))
 
 returns-4 : tie.Need-returns-4
 unfolding filledIn
 returns-4 c =
     let test = c .before .before .before .before .before in
     let plain = toZ-ofZ w64 (test .before .before .before .before .before .args .x .low) (record { sfits = c .before .before .before .struct-told3 .given .1 .1 .1 .0 .1 }) in
-    rw (ne-eqb _ _ (test .before .before .before .if1 .left), ne-eqb _ _ (test .before .before .if2 .left), ne-eqb _ _ (test .before .if3 .left), eq-eqb _ _ (test .if4 .taken)) (rw plain at (c .before .before .put-signed2 .ensures))
+    rw (ne-eqb _ _ (test .before .before .before .if1 .left), ne-eqb _ _ (test .before .before .if2 .left), ne-eqb _ _ (test .before .if3 .left), eq-eqb _ _ (test .if4 .taken)) (rw plain at (c .before .before .put-signed3 .ensures))
 
 returns-5 : tie.Need-returns-5
 unfolding filledIn
 returns-5 c =
     let test = c .before .before .before .before .before in
     let plain = toZ-ofZ w64 (test .before .before .before .before .before .before .args .x .high) (record { sfits = c .before .before .before .struct-told4 .given .1 .1 .1 .1 .0 .1 }) in
-    rw (ne-eqb _ _ (test .before .before .before .before .if1 .left), ne-eqb _ _ (test .before .before .before .if2 .left), ne-eqb _ _ (test .before .before .if3 .left), ne-eqb _ _ (test .before .if4 .left), eq-eqb _ _ (test .if5 .taken)) (rw plain at (c .before .before .put-signed3 .ensures))
+    rw (ne-eqb _ _ (test .before .before .before .before .if1 .left), ne-eqb _ _ (test .before .before .before .if2 .left), ne-eqb _ _ (test .before .before .if3 .left), ne-eqb _ _ (test .before .if4 .left), eq-eqb _ _ (test .if5 .taken)) (rw plain at (c .before .before .put-signed4 .ensures))
 
 returns-6 : tie.Need-returns-6
 unfolding filledIn

@@ -17,8 +17,8 @@ use Rattle.table.proofs.judge.rows_judged.Tie as tie
 
 rows-tested-requires : tie.Need-rows-tested-requires
 rows-tested-requires c κs =
-    let worked = c .before .before .before in
-    let counted = worked .before .before .before .before in
+    let worked = c .before .before .before .before .before in
+    let counted = worked .before .before in
     let start = counted .before in
     let v = start .args .v in
     let rows = counted .rows-in .ensures in
@@ -26,8 +26,8 @@ rows-tested-requires c κs =
 
 returns : tie.Need-returns
 returns c =
-    let worked = c .before .before .before .before in
-    let counted = worked .before .before .before .before in
+    let worked = c .before .before .before .before .before .before in
+    let counted = worked .before .before in
     let v = counted .before .args .v in
     let rows = counted .rows-in .result in
     let cells = counted .before .args .cells in

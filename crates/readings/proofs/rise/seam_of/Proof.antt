@@ -1,4 +1,4 @@
--- `readings::reading::seam_of` meets its contract: item i, where there is one, lies inside the file and within its limits. Assumes nothing.
+-- `readings::rise::seam_of` meets its contract: item i, where there is one, lies inside the file and within its limits. Assumes nothing.
 use Prim.Native.Nat.{_+_, _≤_, _<_}
 use mathlib.Core.Path.{refl, ap}
 use native.Mathlib.Omega.{arith}
@@ -8,8 +8,8 @@ use Rattle.file.specs.Layout.{seamEnd}
 use Rattle.file.specs.Section.{seams, recordAt}
 use Rattle.numbers.specs.FitLaws.{seam-inside, seam-from-fits}
 use borrow.Author.Needs.{needs}
-use Rattle.readings.proofs.reading.seam_of.Statement.{statement}
-use Rattle.readings.proofs.reading.seam_of.Tie as tie
+use Rattle.readings.proofs.rise.seam_of.Statement.{statement}
+use Rattle.readings.proofs.rise.seam_of.Tie as tie
 
 -- course i has a seam item ..
 there : (c : tie.Then1) → let a = c .before .before .before .before .args in a .i < seams (a .f) (a .s .now) .count

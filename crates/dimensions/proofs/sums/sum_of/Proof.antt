@@ -1,11 +1,11 @@
--- `dimensions::dimensions::sum_of` meets its contract: its words are the definition's, and their product is small. Assumes nothing.
+-- `dimensions::sums::sum_of` meets its contract: its words are the definition's, and their product is small. Assumes nothing.
 use Prim.Native.Nat.{_+_, _*_, _≤_}
 use native.Mathlib.Omega.{arith}
 use Rattle.dimensions.specs.Dimensions.{sumOf}
 use Rattle.dimensions.specs.SumLaws.{mostReading, sum-fits}
 use borrow.Author.Needs.{needs}
-use Rattle.dimensions.proofs.dimensions.sum_of.Statement.{statement}
-use Rattle.dimensions.proofs.dimensions.sum_of.Tie as tie
+use Rattle.dimensions.proofs.sums.sum_of.Statement.{statement}
+use Rattle.dimensions.proofs.sums.sum_of.Tie as tie
 
 product : (c : tie.After-word2) → (c .before .before .before .corrected-at .result + c .before .before .corrected-at2 .result) * c .before .word .result ≤ 1 * mostReading
 unfolding sumOf

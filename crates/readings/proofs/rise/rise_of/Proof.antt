@@ -1,9 +1,9 @@
--- `readings::reading::rise_of` meets its contract: what its callees ensure, put together. Assumes nothing.
+-- `readings::rise::rise_of` meets its contract: what its callees ensure, put together. Assumes nothing.
 use Rattle.numbers.specs.FitLaws.{dh-fits}
 use Rattle.readings.specs.Reading.{riseOf}
 use borrow.Author.Needs.{needs}
-use Rattle.readings.proofs.reading.rise_of.Statement.{statement}
-use Rattle.readings.proofs.reading.rise_of.Tie as tie
+use Rattle.readings.proofs.rise.rise_of.Statement.{statement}
+use Rattle.readings.proofs.rise.rise_of.Tie as tie
 
 tape-rise-requires : tie.Need-tape-rise-requires
 tape-rise-requires c κs =

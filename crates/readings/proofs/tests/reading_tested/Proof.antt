@@ -1,7 +1,7 @@
--- `readings::reading::reading_tested` meets its contract: what its callees ensure, put together. Assumes nothing.
+-- `readings::tests::reading_tested` meets its contract: what its callees ensure, put together. Assumes nothing.
 use borrow.Author.Needs.{needs}
-use Rattle.readings.proofs.reading.reading_tested.Statement.{statement}
-use Rattle.readings.proofs.reading.reading_tested.Tie as tie
+use Rattle.readings.proofs.tests.reading_tested.Statement.{statement}
+use Rattle.readings.proofs.tests.reading_tested.Tie as tie
 
 returns : tie.Need-returns
 returns c = rw (← c .before .corrected-at .ensures .0) (c .number-tested .ensures)

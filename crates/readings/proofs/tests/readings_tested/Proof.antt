@@ -1,4 +1,4 @@
--- `readings::reading::readings_tested` meets its contract. The loop's invariant: v is the verdict on the courses passed. The measure is what
+-- `readings::tests::readings_tested` meets its contract. The loop's invariant: v is the verdict on the courses passed. The measure is what
 -- is left of them. Assumes nothing.
 use mathlib.Core.Path.{_≡_, refl, _∙_, ap, ap₂}
 use Prim.Native.Nat.{ℕ, _-_, _≤_, _<_}
@@ -10,8 +10,8 @@ use Rattle.readings.specs.Reading.{riseOf}
 use Rattle.records.specs.RecordLaws.{record-small, record-whole}
 use Rattle.records.specs.Record.{recordOf}
 use Rattle.readings.specs.Tests.{readingTests}
-use Rattle.readings.proofs.reading.readings_tested.Statement.{statement}
-use Rattle.readings.proofs.reading.readings_tested.Tie as tie
+use Rattle.readings.proofs.tests.readings_tested.Statement.{statement}
+use Rattle.readings.proofs.tests.readings_tested.Tie as tie
 
 abbrev Inv-loop : tie.InvT-loop
 Inv-loop f s x count v₀ i₀ v i =

@@ -1,4 +1,4 @@
--- `dimensions::dimensions::file_sums` meets its contract. The loop's invariant: the sums are those over the courses passed. The measure is
+-- `dimensions::sums::file_sums` meets its contract. The loop's invariant: the sums are those over the courses passed. The measure is
 -- what is left of them. Assumes nothing.
 use mathlib.Core.Path.{_≡_, refl, _∙_, ap, ap₂}
 use Prim.Native.Nat.{_+_, _-_, _≤_, _<_}
@@ -11,8 +11,8 @@ use Rattle.readings.specs.Reading.{riseOf}
 use Rattle.readings.specs.FitLaws.{as-they-stand, courses-fit}
 use Rattle.dimensions.specs.Dimensions.{sumOf, added, sumsOver, sumsOf}
 use Rattle.dimensions.specs.SumLaws.{sum-fits, sums-fit, sums-small, file-sums-fit}
-use Rattle.dimensions.proofs.dimensions.file_sums.Statement.{statement}
-use Rattle.dimensions.proofs.dimensions.file_sums.Tie as tie
+use Rattle.dimensions.proofs.sums.file_sums.Statement.{statement}
+use Rattle.dimensions.proofs.sums.file_sums.Tie as tie
 
 abbrev Inv-loop : tie.InvT-loop
 Inv-loop f s x count t₀ i₀ t i =

@@ -1,8 +1,8 @@
--- `dimensions::dimensions::add` meets its contract: each sum is the definition's, and fits. Assumes nothing.
+-- `dimensions::sums::add` meets its contract: each sum is the definition's, and fits. Assumes nothing.
 use mathlib.Core.Path.{refl}
 use borrow.Author.Needs.{needs}
-use Rattle.dimensions.proofs.dimensions.add.Statement.{statement}
-use Rattle.dimensions.proofs.dimensions.add.Tie as tie
+use Rattle.dimensions.proofs.sums.add.Statement.{statement}
+use Rattle.dimensions.proofs.sums.add.Tie as tie
 
 returns : tie.Need-returns
 returns c = refl

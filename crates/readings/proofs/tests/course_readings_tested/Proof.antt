@@ -1,9 +1,9 @@
--- `readings::reading::course_readings_tested` meets its contract: its tests in turn are the tests of the list. Assumes nothing.
+-- `readings::tests::course_readings_tested` meets its contract: its tests in turn are the tests of the list. Assumes nothing.
 use Rattle.refusal.specs.TestLaws.{verdict-in-turn}
 use Rattle.readings.specs.Tests.{readingTests}
 use borrow.Author.Needs.{needs}
-use Rattle.readings.proofs.reading.course_readings_tested.Statement.{statement}
-use Rattle.readings.proofs.reading.course_readings_tested.Tie as tie
+use Rattle.readings.proofs.tests.course_readings_tested.Statement.{statement}
+use Rattle.readings.proofs.tests.course_readings_tested.Tie as tie
 
 returns : tie.Need-returns
 unfolding readingTests
