@@ -1,16 +1,18 @@
 -- Document 01's example survey with two deadwood items, a word of it changed at a time, so that every test of a file refuses once: the refusal that each
 -- gets, and what that is about, which is a computation. Assumes nothing.
-use Prim.Native.Nat.{ℕ, zero, suc, _+_}
+use Prim.Native.Nat.{ℕ, zero, suc, _+_, _<_}
 use mathlib.Core.Path.{_≡_, refl}
 use mathlib.Core.List.{List, [], _∷_}
+use borrow.Author.Tests.{lt-leb}
 use lib.IntN.{pos, negℤ}
+use lib.ListN.{length}
 use Rattle.laws.specs.Fill.{rowsOf}
 use Rattle.laws.specs.Nearest.{nearest}
 use Rattle.laws.specs.Root.{root, rootOf}
 use Rattle.refusal.specs.declared.About.{About}
 use Rattle.refusal.specs.declared.Verdict.the-variants.{Refused}
 use Rattle.refusal.specs.Test.{about, refusal, items}
-use Rattle.sentences.specs.Sentences.{ofHeader, ofCourses, ofDeadwood, ofSeams, ofCorrected, ofSize, ofDeadwoodOverCourses, ofSeamsOverCourses, ofSeamsOverDeadwood, ofLengths, ofShellDiameter, ofHeadDiameter, ofHeadLength}
+use Rattle.sentences.specs.Sentences.{ofHeader, ofCourses, ofDeadwood, ofSeams, ofCorrected, ofSize, ofLargeFile, ofDeadwoodOverCourses, ofSeamsOverCourses, ofSeamsOverDeadwood, ofLengths, ofShellDiameter, ofHeadDiameter, ofHeadLength}
 use Rattle.heads.specs.Kind.{kindKnown, kindOf}
 use Rattle.seams.specs.Rise.{firstTerm, secondTerm, tapeRise}
 use Rattle.file.specs.Word.{word, signedWord, bytesOf}
@@ -116,3 +118,8 @@ made-of-words = (refl, refl, refl, refl, refl, refl, refl, refl, refl, refl)
 pub no-bytes : Gets [] 1 0 (about ofSize 0 0 56 65536)
 unfolding fileTests decoded
 no-bytes = refl
+
+-- .. and any file past the largest
+pub too-large : (s : List ℕ) → 65536 < length s → decoded s .verdict ≡ Refused (refusal 1 0 (about ofLargeFile 0 0 56 65536))
+unfolding fileTests decoded
+too-large s large = rw (lt-leb (length s) 65536 large)
