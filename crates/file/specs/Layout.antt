@@ -4,7 +4,6 @@
 use Prim.Native.Nat.{ℕ}
 use mathlib.Core.Bool.{Bool}
 use lib.Dec.{leb}
-use Rattle.laws.specs.Order.{pick}
 use Rattle.file.specs.declared.format.Format.{Format}
 
 -- in the header
@@ -110,7 +109,3 @@ seamEnd = 12
 -- a format has the seams if its header has their words
 abbrev pub hasSeams : Format → Bool
 hasSeams f = leb seamHeaderEnd (f .header)
-
--- behind the last word of a format's header
-abbrev pub wordsEnd : Format → ℕ
-wordsEnd f = pick (hasSeams f) seamHeaderEnd headerEnd
