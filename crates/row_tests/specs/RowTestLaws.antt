@@ -13,12 +13,13 @@ use lib.Signed.{leZ, nonNeg}
 use Rattle.laws.specs.Fill.{rowsOf}
 use Rattle.laws.specs.FillLaws.{rowsOf-agree}
 use Rattle.laws.specs.BoolLaws.{true-not-false}
+use Rattle.refusal.specs.declared.Refusal.{Refusal}
 use Rattle.refusal.specs.declared.Verdict.{Verdict}
 use Rattle.refusal.specs.declared.Verdict.the-variants.{Passed, Refused}
-use Rattle.refusal.specs.Test.{verdict, items}
+use Rattle.refusal.specs.Test.{about, verdict, items}
 use Rattle.refusal.specs.TestLaws.{passed-pick, passed-items, passed-all, items-agree}
-use Rattle.refusal.specs.EachLaws.{each-item}
-use Rattle.sentences.specs.Sentences.{told}
+use Rattle.refusal.specs.EachLaws.{each-item, refused-each}
+use Rattle.sentences.specs.Sentences.{ofFallingRow, told}
 use Rattle.sentences.specs.KnownLaws.{Known, KnownIn, verdict-known}
 use Rattle.survey.specs.declared.decode.Survey.{Survey}
 use Rattle.rows.specs.Rows.{rowsIn, heightOf, netRow}
@@ -67,6 +68,17 @@ front-left (Refused r) f n rest table = refl
 pub rows-known : (v : Survey) (cells : ℕ) → KnownIn (verdict (tableTests v cells))
 unfolding rowTests told
 rows-known v cells = verdict-known (tableTests v cells) (refl, each-item Known (rowsIn v) (fallTest (netRow v) (heightOf v)) (λ i l. (refl, tt)))
+
+-- refusal 9 is about the row that is its place, and that row's height
+
+abbrev FallTold : Survey → Refusal → Type 0
+FallTold v r = r .number ≡ 9 → r .about ≡ about ofFallingRow (r .place) (heightOf v (r .place)) 0 0
+
+pub fall-told : (v : Survey) (cells : ℕ) (r : Refusal) → verdict (tableTests v cells) ≡ Refused r → FallTold v r
+unfolding rowTests
+fall-told v cells =
+    refused-each (FallTold v) (tableTests v cells)
+    (λ e. absurd (omega arith), each-item (FallTold v) (rowsIn v) (fallTest (netRow v) (heightOf v)) (λ i l. (λ e. refl, tt)))
 
 not-below-zero-again : (y z : ℤ) → nonNeg y ≡ true → leZ y z ≡ true → nonNeg z ≡ true
 not-below-zero-again (pos m) (pos n) a e = refl
