@@ -12,7 +12,7 @@ use rewrite::rewritten::MOST_BYTES;
 use table::make::Made;
 
 #[repr(C)]
-#[derive(Drop)]
+#[derive(Clone, Copy)]
 pub struct TableNumbers {
     pub refusal: u32,
     pub place: u32,
@@ -22,7 +22,7 @@ pub struct TableNumbers {
 }
 
 #[repr(C)]
-#[derive(Drop)]
+#[derive(Clone, Copy)]
 pub struct LitresNumbers {
     pub refusal: u32,
     pub place: u32,
@@ -30,7 +30,7 @@ pub struct LitresNumbers {
 }
 
 #[repr(C)]
-#[derive(Drop)]
+#[derive(Clone, Copy)]
 pub struct HeightNumbers {
     pub refusal: u32,
     pub place: u32,
@@ -39,7 +39,7 @@ pub struct HeightNumbers {
 
 // A converted file: the first `length` bytes; behind them stands 0.
 #[repr(C)]
-#[derive(Drop)]
+#[derive(Clone, Copy)]
 pub struct ConvertedNumbers {
     pub refusal: u32,
     pub place: u32,

@@ -8,7 +8,7 @@ use sentences::put_words;
 
 // The words of a refusal: the first `length` bytes of the text; behind them it is 0, and at least one byte is.
 #[repr(C)]
-#[derive(Drop)]
+#[derive(Clone, Copy)]
 pub struct Words {
     pub length: u32,
     pub text: [u8; 256],

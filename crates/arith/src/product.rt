@@ -6,7 +6,7 @@ ghost use Rattle.arith.specs.QuotientLaws.{Divided};
 use crate::nearest::round_rest;
 
 // A number kept as quotient · divisor + rest, for a divisor that goes beside it.
-#[derive(Drop)]
+#[derive(Clone, Copy)]
 pub struct Quotient {
     pub quotient: u64,
     pub rest: u64,

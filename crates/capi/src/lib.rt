@@ -1,6 +1,8 @@
 // The calls that C programs make, under names that begin with milechime_: the table of a survey, both lookups, an old survey in today's format,
 // and a refusal in words, on numbers and slices alone. A slice is a pointer and a length to C. Nothing is asked of a caller but that these are
 // what they say.
+#![tactic(auto)]
+
 ghost use Rattle.std.specs.Prelude.{◌≡◌, ◌≤◌, ◌<◌, length};
 ghost use Rattle.laws.specs.Exactly.{Exactly};
 ghost use Rattle.file.specs.Format.{format48};

@@ -1,5 +1,7 @@
 // The converter: a file with a header of 48 bytes in today's format, or its refusal. It is judged by today's rules under its own format, its
 // rows too.
+#![tactic(auto)]
+
 ghost use Rattle.std.specs.Prelude.{◌≡◌, List, ℕ};
 ghost use Rattle.file.specs.Format.{format48};
 ghost use Rattle.survey.specs.Survey.{decoded_as};
@@ -13,7 +15,7 @@ use survey::decode::decode_48;
 use table::judge::judged;
 
 // The file is the first `length` bytes, and behind them stands 0; a refusal has none.
-#[derive(Drop)]
+#[derive(Clone, Copy)]
 pub struct Converted {
     pub verdict: Verdict,
     pub length: usize,

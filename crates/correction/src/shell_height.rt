@@ -9,7 +9,7 @@ ghost use Rattle.correction.specs.Correction.{held_within, corrected_height};
 use measure::diameter::Diameter;
 use measure::dip_height::DipHeight;
 
-#[derive(Drop)]
+#[derive(Clone, Copy)]
 pub struct ShellHeight(u32);
 
 // Half of x, rounded down, toward the lower number, also below zero.

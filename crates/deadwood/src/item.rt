@@ -15,7 +15,7 @@ pub const MOST_ITEMS: usize = 64;
 pub const LARGEST_VOLUME: i64 = 10_000_000;
 
 // A fitting: nothing of it at or below its low height, all of it at or above its high height. Positive volume takes room away.
-#[derive(Drop)]
+#[derive(Clone, Copy)]
 pub struct Deadwood {
     pub low: DipHeight,
     pub high: DipHeight,

@@ -30,7 +30,7 @@ const COURSE_ALLOWANCE: u64 = 100;
 const FARTHEST: u64 = 10_000;
 
 // DH, D1 and D2 of a file; or its refusal.
-#[derive(Drop)]
+#[derive(Clone, Copy)]
 pub enum Dimensions {
     Found(Diameter, Diameter, Diameter),
     Refused(Refusal),

@@ -14,7 +14,7 @@ use file::word::word;
 use readings::rise::{corrected_at, rise_of};
 
 // What the dimensions are made of, summed over courses.
-#[derive(Drop)]
+#[derive(Clone, Copy)]
 pub struct Sums {
     // (first + second circumference) · length
     pub readings: u64,

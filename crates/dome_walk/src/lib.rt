@@ -1,4 +1,6 @@
 // The domes of a tank with spherical cap heads, worked out: the widths of a dome, and the totals of its cells as a walk up the levels.
+#![tactic(auto)]
+
 mod face;
 mod level;
 pub mod walk;

@@ -1,4 +1,6 @@
 // Reading a figure: one to eight digits, and if they follow, a point and one or two decimals. Nothing else is one.
+#![tactic(auto)]
+
 ghost use Rattle.std.specs.Prelude.{◌^◌, ◌≤◌, ◌<◌, ◌≡◌};
 ghost use Rattle.text.specs.Digits.{digit_of};
 ghost use Rattle.figures.specs.Figures.{is_digit, value_of, most_digits, fitting, pointed, decimals, figure_of};
@@ -11,7 +13,7 @@ const MOST_DIGITS: usize = 8;
 const LARGEST_FIGURE: u64 = 4_294_967_295;
 
 // In hundredths of what the text counts.
-#[derive(Drop)]
+#[derive(Clone, Copy)]
 pub enum Figure {
     Hundredths(u32),
     NotAFigure,

@@ -6,7 +6,7 @@ ghost use Rattle.file.specs.Format.{format_of, format48, today};
 
 use crate::layout;
 
-#[derive(Drop)]
+#[derive(Clone, Copy)]
 pub struct Format {
     pub header: usize,
     pub course: usize,

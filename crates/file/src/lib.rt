@@ -1,4 +1,6 @@
 // The bytes of a survey file: its words, where each number stands, its formats and sections.
+#![tactic(auto)]
+
 pub mod format;
 pub mod layout;
 pub mod section;

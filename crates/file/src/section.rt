@@ -7,14 +7,14 @@ use crate::format::Format;
 use crate::layout;
 use crate::word::word;
 
-#[derive(Drop)]
+#[derive(Clone, Copy)]
 pub enum Records {
     Courses,
     Deadwood,
     Seams,
 }
 
-#[derive(Drop)]
+#[derive(Clone, Copy)]
 pub struct Section {
     pub records: Records,
     pub count: usize,

@@ -2,7 +2,7 @@
 ghost use Rattle.std.specs.Prelude.{◌≡◌};
 ghost use Rattle.heads.specs.Kind.{kind_known, kind_of};
 
-#[derive(Drop)]
+#[derive(Clone, Copy)]
 pub enum HeadKind {
     Flat,
     HalfEllipsoid,

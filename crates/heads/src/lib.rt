@@ -1,4 +1,6 @@
 // The heads of a tank, by their kind: a file for each question that a kind answers.
+#![tactic(auto)]
+
 pub mod kind;
 pub mod length;
 pub mod volume;

@@ -1,4 +1,6 @@
 // The lines that the programs print, each with its line end, put into lent memory; and how long a line can be.
+#![tactic(auto)]
+
 ghost use Rattle.std.specs.Prelude.{◌≤◌, length};
 ghost use Rattle.lines.specs.Lines.{rows_line, row_line, refused_line, figure_line, sign_of, signed_line, line_size, row_size};
 ghost use Rattle.text.specs.Put.{Put};

@@ -12,7 +12,7 @@ use measure::dip_height::DipHeight;
 use refusal::Refusal;
 
 // Litres in v, below zero where the second height holds less.
-#[derive(Drop)]
+#[derive(Clone, Copy)]
 pub enum DeliveredAnswer {
     Litres(i64),
     Refused(Refusal),

@@ -16,7 +16,7 @@ use measure::dip_height::DipHeight;
 use measure::volume::Volume;
 use refusal::Refusal;
 
-#[derive(Drop)]
+#[derive(Clone, Copy)]
 pub enum HeightAnswer {
     Height(DipHeight),
     Refused(Refusal),

@@ -14,7 +14,7 @@ use measure::dip_height::DipHeight;
 use measure::volume::Volume;
 use refusal::Refusal;
 
-#[derive(Drop)]
+#[derive(Clone, Copy)]
 pub enum LitresAnswer {
     Litres(Volume),
     Refused(Refusal),

@@ -3,11 +3,11 @@ ghost use Rattle.std.specs.Prelude.{◌≡◌};
 ghost use Rattle.measure.specs.Diameter.{measured, smallest, largest};
 ghost use Rattle.measure.specs.Quantity.{diameter, diameter_units};
 
-#[derive(Drop)]
+#[derive(Clone, Copy)]
 pub struct Diameter(u32);
 
 // What measuring a diameter gives.
-#[derive(Drop)]
+#[derive(Clone, Copy)]
 pub enum Measured {
     Within(Diameter),
     Outside,
@@ -21,8 +21,8 @@ impl Diameter {
     // The diameter of so many u, refused outside the limits. The limits are those of the definition.
     pub fn of(units: u64) -> Measured
         ensures value { result ≡ measured units }
-        ensures* do_value { do ⌜ (← (⟦Diameter::SMALLEST⟧).entry) ≡ smallest ⌝ }
-        ensures* do_value_2 { do ⌜ (← (⟦Diameter::LARGEST⟧).entry) ≡ largest ⌝ }
+        ensures smallest_value { Diameter.SMALLEST ≡ smallest }
+        ensures largest_value { Diameter.LARGEST ≡ largest }
     {
         if units < Diameter::SMALLEST as u64 {
             return Measured::Outside;

@@ -2,7 +2,7 @@
 ghost use Rattle.std.specs.Prelude.{◌≡◌};
 ghost use Rattle.measure.specs.Quantity.{dip_height, dip_units};
 
-#[derive(Drop)]
+#[derive(Clone, Copy)]
 pub struct DipHeight(u32);
 
 impl DipHeight {

@@ -2,7 +2,7 @@
 ghost use Rattle.std.specs.Prelude.{◌≡◌, ◌+◌, ◌^◌, ◌<◌};
 ghost use Rattle.measure.specs.Quantity.{volume, volume_units};
 
-#[derive(Drop)]
+#[derive(Clone, Copy)]
 pub struct Volume(u32);
 
 // One v in cubic u.

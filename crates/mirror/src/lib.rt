@@ -1,1 +1,2 @@
 // No code: what is proved of a table turned over, in specs/.
+#![tactic(auto)]

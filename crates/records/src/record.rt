@@ -10,7 +10,7 @@ use refusal::{Verdict, next_limited};
 use sentences::{OF_COURSES, OF_DEADWOOD, OF_SEAMS};
 
 // A record of the file, or its header: the byte where it starts, the sentence of its first word, and which one it is as one counts from 1.
-#[derive(Drop)]
+#[derive(Clone, Copy)]
 pub struct Record {
     pub at: usize,
     pub sentence: u32,

@@ -1,5 +1,7 @@
 // A refusal as the papers number it and what it is about, the verdict of tests in their order, and verdicts put together. What is
 // refused, and when, is said where the tests stand.
+#![tactic(auto)]
+
 ghost use Rattle.std.specs.Prelude.{◌≡◌, [], ◌∷◌, ◌^◌, ◌<◌};
 ghost use Rattle.refusal.specs.Test.{about, test, limited, verdict, first_refusal};
 
@@ -8,7 +10,7 @@ use crate::limits::is_within;
 pub mod limits;
 
 // What a test is about: the sentence that says it, and the numbers that the sentence names.
-#[derive(Drop)]
+#[derive(Clone, Copy)]
 pub struct About {
     pub sentence: u32,
     // a record's number counted from 1, a row's index, ..; 0 where nothing is counted
@@ -19,14 +21,14 @@ pub struct About {
     pub high: i64,
 }
 
-#[derive(Drop)]
+#[derive(Clone, Copy)]
 pub struct Refusal {
     pub number: u32,
     pub place: u32,
     pub about: About,
 }
 
-#[derive(Drop)]
+#[derive(Clone, Copy)]
 pub enum Verdict {
     Passed,
     Refused(Refusal),

@@ -1,4 +1,6 @@
 // The rows of a survey's table: how many, and the net volumes, worked out from the bottom up. The caller's table is not touched here.
+#![tactic(auto)]
+
 ghost use Rattle.std.specs.Prelude.{◌≡◌, ◌++◌, ◌≤◌, ◌<◌, pos, ◌-ℤ◌, length, take, drop};
 ghost use Rattle.laws.specs.Fill.{rows_of};
 ghost use Rattle.measure.specs.Quantity.{dip_units, volume_units};

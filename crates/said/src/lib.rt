@@ -1,11 +1,13 @@
 // What is said of an answer in hand, put into lent memory: a text for standard output and one for standard error.
+#![tactic(auto)]
+
 pub mod answers;
 pub mod file;
 pub mod refused;
 pub mod rows;
 
 // How many bytes each of the two texts has.
-#[derive(Drop)]
+#[derive(Clone, Copy)]
 pub struct Said {
     pub out: usize,
     pub err: usize,

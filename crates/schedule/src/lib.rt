@@ -1,4 +1,6 @@
 // The heights of the rows of a table: how many there are, and where each stands.
+#![tactic(auto)]
+
 ghost use Rattle.std.specs.Prelude.{◌≡◌, ◌<◌};
 ghost use Rattle.measure.specs.Quantity.{dip_height};
 ghost use Rattle.schedule.specs.Rows.{smallest_step, largest_step, most_rows, row_count, row_height};

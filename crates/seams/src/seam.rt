@@ -11,7 +11,7 @@ pub const THICKEST_SEAM: u32 = 1_000;
 pub const WIDEST_SEAM: u32 = 5_000;
 
 // N, t and w: how many welds the tape crosses, and how thick and how wide each of them is, in u.
-#[derive(Drop)]
+#[derive(Clone, Copy)]
 pub struct Seam {
     pub number: u32,
     pub thickness: u32,

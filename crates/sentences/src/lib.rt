@@ -1,4 +1,6 @@
 // The sentences that say in words what a test is about, by their numbers. Each block has room for more, so that a new sentence renumbers none.
+#![tactic(auto)]
+
 ghost use Rattle.std.specs.Prelude.{◌≤◌, ◌<◌, length};
 ghost use Rattle.text.specs.Put.{Put};
 ghost use Rattle.sentences.specs.Sentences.{words, words_line, words_size};

@@ -1,5 +1,7 @@
 // Reading and writing the whole of something, by as many calls as it takes. A call that a signal cut off, or that would have had to wait, is
 // made again for about a minute; a call that moves anything starts that minute anew. Any other failure ends it.
+#![tactic(auto)]
+
 mod again;
 mod pause;
 mod read;
@@ -11,7 +13,7 @@ pub use write::write_whole;
 
 // What it came to: how many bytes were moved, and whether that is all there was to move. Where it is not, the last call failed, and errno
 // still says why.
-#[derive(Drop)]
+#[derive(Clone, Copy)]
 pub struct Moved {
     pub count: usize,
     pub whole: bool,

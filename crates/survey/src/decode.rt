@@ -33,7 +33,7 @@ pub const LARGEST_FILE: usize = tests::LARGEST_FILE;
 pub const OLD_HEADER: usize = layout::HEADER_END;
 
 // All that a table is made of. Behind the deadwood items stand items that take nothing.
-#[derive(Drop)]
+#[derive(Clone, Copy)]
 pub struct Survey {
     pub tank: Tank,
     pub step: u32,
@@ -42,7 +42,7 @@ pub struct Survey {
 }
 
 // The verdict on a file, and its survey; beside a refusal stands a survey of nothing.
-#[derive(Drop)]
+#[derive(Clone, Copy)]
 pub struct Decoded {
     pub verdict: Verdict,
     pub survey: Survey,

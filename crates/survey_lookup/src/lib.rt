@@ -1,4 +1,6 @@
 // A survey file's own table, made once in memory that goes with the answer, and the lookups on it: as many as are asked for.
+#![tactic(auto)]
+
 ghost use Rattle.std.specs.Prelude.{◌≡◌, take};
 ghost use Rattle.measure.specs.Quantity.{dip_units, volume_units};
 ghost use Rattle.survey.specs.Survey.{decoded};
@@ -17,7 +19,7 @@ use survey::decode::decode;
 use table::make::filled;
 
 // A survey's table with what a lookup takes beside it; or the refusal, with all numbers 0.
-#[derive(Drop)]
+#[derive(Clone, Copy)]
 pub struct Tabled {
     pub verdict: Verdict,
     pub dh: u32,

@@ -1,3 +1,5 @@
 // From a survey to its capacity table.
+#![tactic(auto)]
+
 pub mod judge;
 pub mod make;

@@ -18,7 +18,7 @@ use schedule::MOST_ROWS;
 use survey::decode::{Decoded, Survey, decode};
 
 // The table's D1, D2 and row count; or the refusal's number and place.
-#[derive(Drop)]
+#[derive(Clone, Copy)]
 pub enum Made {
     Table(Diameter, Diameter, u32),
     Refused(u32, u32),

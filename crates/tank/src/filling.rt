@@ -17,7 +17,7 @@ use heads::walk::heads_on_to;
 use measure::dip_height::DipHeight;
 use measure::volume::Volume;
 
-#[derive(Drop)]
+#[derive(Clone, Copy)]
 pub struct Filling {
     pub shell: Walk,
     pub flanges: Walk,

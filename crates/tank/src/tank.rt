@@ -3,7 +3,7 @@ use heads::kind::HeadKind;
 use measure::diameter::Diameter;
 
 // The diameter at the dip point, the shell (d1, l1), and the heads of one kind (d2, l3) with a flange of length l2 each.
-#[derive(Drop)]
+#[derive(Clone, Copy)]
 pub struct Tank {
     pub kind: HeadKind,
     pub dh: Diameter,

@@ -1,4 +1,6 @@
 // tankconvert: an old survey file in today's format, or the line of its refusal; and beside a refusal, on standard error, what it means in words.
+#![tactic(auto)]
+
 use libc::{STDERR_FILENO, STDOUT_FILENO};
 use report::conversion::conversion_said;
 use rewrite::rewritten::MOST_BYTES;

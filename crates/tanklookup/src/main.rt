@@ -1,5 +1,7 @@
 // tanklookup: the litres at dip heights of a surveyed tank, the lowest dip heights for volumes, or the litres delivered between two dips;
 // and beside a refusal, on standard error, what it means in words. Figures are in mm and litres with up to two decimals, as on the tape.
+#![tactic(auto)]
+
 ghost use Rattle.io.specs.Counts.{IsPrefixLen};
 
 use figures::{Figure, read_figure};
@@ -11,7 +13,7 @@ use streams::{read_input, read_named, write_output, write_whole};
 use survey::decode::LARGEST_FILE;
 use survey_lookup::{Tabled, table_of};
 
-#[derive(Drop)]
+#[derive(Clone, Copy)]
 enum Command {
     Litres,
     Height,

@@ -1,4 +1,6 @@
 // tanktable: the capacity table of a survey, or the line of its refusal; and beside a refusal, on standard error, what it means in words.
+#![tactic(auto)]
+
 use libc::{STDERR_FILENO, STDOUT_FILENO};
 use report::table::table_said;
 use said::{ERR_SIZE, OUT_SIZE};

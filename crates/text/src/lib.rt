@@ -1,3 +1,5 @@
 // Text put into lent memory, each piece equal to its definition.
+#![tactic(auto)]
+
 pub mod grouped;
 pub mod put;

@@ -1,0 +1,17 @@
+-- `convert::written` meets its contract: the file that is put stands at the front, and zeros behind it. Assumes nothing.
+use Rattle.std.proofs.Common.{ℕ, ◌≤◌, ap₂, List, length, replicate, length-replicate}
+use Rattle.rewrite.specs.Rewritten.{rewritten, most_bytes}
+use Rattle.refusal.specs.declared.Verdict.TheVariants.{Passed}
+use Rattle.text.specs.PutLaws.{put_fits}
+use Rattle.convert.specs.declared.Converted.{Converted}
+use Rattle.convert.proofs.written.Goals as goal
+
+abbrev converted-to : ℕ → List ℕ → Converted
+converted-to length file = record { verdict = Passed; length = length; file = file }
+
+pub returns : goal.returns
+returns c =
+    let put = c.put_rewritten-length in
+    let fits : length (rewritten c.args.survey.now) ≤ length {A = ℕ} (replicate most_bytes 0) = rw length-replicate put.ensures.1.0 in
+    let whole = put_fits put.ensures.0 fits in
+    ap₂ converted-to whole.1 whole.0

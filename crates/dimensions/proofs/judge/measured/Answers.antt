@@ -1,0 +1,74 @@
+-- `dimensions::judge::measured` meets its contract: the sums are the definition's, and so are the tests made of them. Assumes nothing.
+use Rattle.std.proofs.Common.{arith, List, [], ◌∷◌, ◌++◌, ◌≡◌, sym, ◌∙◌, ap, ℕ}
+use Rattle.laws.specs.BoolLaws.{by_test}
+use Rattle.refusal.specs.declared.Verdict.{Verdict}
+use Rattle.refusal.specs.Test.{Test, verdict, first_refusal}
+use Rattle.refusal.specs.TestLaws.{verdict_append}
+use Rattle.heads.specs.Kind.{kind_of}
+use Rattle.heads.specs.Length.{fits_diameter}
+use Rattle.file.specs.declared.format.Format.{Format}
+use Rattle.file.specs.Word.{word}
+use Rattle.file.specs.Layout.{kind_at, dh_at, l1_at, l3_at}
+use Rattle.readings.specs.FitLaws.{as_they_stand}
+use Rattle.numbers.specs.FitLaws.{dh_fits, shell_fits}
+use Rattle.dimensions.specs.Dimensions.{sums_of, d1, d2, diameter_fits}
+use Rattle.dimensions.specs.SumLaws.{diameters_small}
+use Rattle.dimensions.specs.Tests.{lengths_test, diameter_tests, head_length_test, dimension_tests}
+use Rattle.dimensions.specs.Judged.{diameters_judged, judged_by, heads_tested}
+use Rattle.dimensions.proofs.judge.measured.Goals as goal
+
+-- refusals 7 and 14
+abbrev rest : Format → List ℕ → List Test
+rest f s = diameter_tests (word s dh_at) (d1 f s) (d2 f s) ++ (head_length_test (kind_of (word s kind_at)) (d2 f s) (word s l3_at) ∷ [])
+
+by-fit : (f : Format) (s : List ℕ) → heads_tested (kind_of (word s kind_at)) (word s l3_at) (diameters_judged s (sums_of f s)) ≡ judged_by f s (verdict (rest f s))
+by-fit f s =
+    by_test (diameter_fits (d1 f s) (word s dh_at))
+    (λ shell.
+    rw shell (by_test (diameter_fits (d2 f s) (word s dh_at))
+    (λ heads. rw heads (by_test (fits_diameter (kind_of (word s kind_at)) (d2 f s) (word s l3_at)) (λ fits. rw fits) (λ long. rw long)))
+    (λ far. rw far)))
+    (λ far. rw far)
+
+-- behind refusal 6
+behind : (f : Format) (s : List ℕ) {v : Verdict} → v ≡ verdict (lengths_test (sums_of f s) (word s l1_at) ∷ [])
+    → judged_by f s (first_refusal v (verdict (rest f s))) ≡ judged_by f s (verdict (dimension_tests f s))
+unfolding dimension_tests
+behind f s e = ap (judged_by f s) (ap (λ v. first_refusal v (verdict (rest f s))) e ∙ sym (verdict_append (lengths_test (sums_of f s) (word s l1_at) ∷ []) (rest f s)))
+
+-- refusal 6, by the sums that the code made
+lengths : (c : tie.After-lengths-tested)
+    → let a = c.args in
+    c.lengths_tested-lengths.result ≡ verdict (lengths_test (sums_of a.f a.s.now) (word a.s.now l1_at) ∷ [])
+lengths c = rw (c.file_sums-t.ensures.0, c.word.ensures) at c.lengths_tested-lengths.ensures
+
+pub lengths_tested-lengths-requires : goal.lengths_tested-lengths-requires
+lengths_tested-lengths-requires c =
+    let start = c in
+    let sums = c.file_sums-t.ensures in
+    let shell = shell_fits start.args.f start.args.s.now (as_they_stand _ _ start.requires.1) in
+    rw c.word.ensures (sums.1.0, omega (arith, shell, sums.1.0.count), omega (arith, shell, sums.1.0.count))
+
+pub returns-in-Refused : goal.returns-in-Refused
+returns-in-Refused c =
+    let a = c.args in
+    rw c.lengths-1.given.1 at (behind a.f a.s.now (lengths c))
+
+pub diameters_in-requires : goal.diameters_in-requires
+diameters_in-requires c =
+    let start = c in
+    let f = start.args.f in
+    let s = start.args.s.now in
+    let fit = as_they_stand f s start.requires.1 in
+    let sums = c.file_sums-t.ensures in
+    let dh = dh_fits f s fit in
+    let small = diameters_small f s start.requires.1 in
+    ((fit.placed.courses_inside.header, sums.1.0, sums.1.1, sums.1.2), rw sums.0 (dh.0, dh.1, small.0, small.1))
+
+pub returns : goal.returns
+returns c =
+    let start = c in
+    let f = start.args.f in
+    let s = start.args.s.now in
+    let found = rw c.file_sums-t.ensures.0 at c.diameters_in.ensures in
+    (rw found at c.heads_in.ensures) ∙ by-fit f s ∙ rw c.enum_told-1.given.1 at (behind f s (lengths c))

@@ -1,0 +1,12 @@
+-- `lookup::delivered::delivered` meets its contract: the answers at the two heights are those of `litres_at`, and
+-- the answer tells the rest. Assumes nothing.
+use Rattle.std.proofs.Common.{◌∙◌, ap₂}
+use Rattle.lookup.specs.Delivered.{delivered_by, delivered_answer}
+use Rattle.lookup.specs.DeliveredLaws.{delivered_told}
+use Rattle.lookup.proofs.delivered.delivered.Goals as goal
+
+pub returns : goal.returns
+unfolding delivered_answer
+returns c =
+    delivered_told _ _ _ _ _
+    (c.second_less_first.ensures ∙ ap₂ delivered_by c.litres_at.ensures.0 c.litres_at-2.ensures.0)

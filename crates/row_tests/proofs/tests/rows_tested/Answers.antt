@@ -1,0 +1,36 @@
+-- `row_tests::tests::rows_tested` meets its contract. The loop's invariant: the verdict is that on the rows passed. The measure is the number of
+-- rows left. Assumes nothing.
+use Rattle.std.proofs.Common.{arith, ◌≡◌, refl, sym, ◌∙◌, ap, ℕ, ◌-◌, lt-leb}
+use Rattle.refusal.specs.declared.Verdict.TheVariants.{Refused}
+use Rattle.refusal.specs.Test.{refusal, verdict, items}
+use Rattle.refusal.specs.TestLaws.{verdict_next}
+use Rattle.schedule.specs.Rows.{row_height}
+use Rattle.rows.specs.RowLaws.{net_of}
+use Rattle.row_tests.specs.Tests.{fall_test, row_tests}
+use Rattle.row_tests.specs.RowTestLaws.{room_enough}
+use Rattle.row_tests.proofs.tests.rows_tested.Goals as goal
+
+pub returns-then-cells-rows : goal.returns-then-cells-rows
+unfolding row_tests
+returns-then-cells-rows c = rw (lt-leb _ _ c.if-cells-rows.true) (ap (λ x. Refused (refusal 8 0 x)) c.about_of-about.ensures)
+
+pub loop-i-init : goal.loop-i-init
+unfolding items
+loop-i-init c = (omega arith, refl)
+
+pub loop-i-preserved : goal.loop-i-preserved
+loop-i-preserved c =
+    let l = c.loop-i in
+    (omega arith, c.fall_tested-falls.ensures ∙ verdict_next l.i (fall_test _ _) l.invariant.1)
+
+pub returns : goal.returns
+returns c =
+    let a = c.args in
+    let l = c.loop-i in
+    let all : l.i ≡ a.rows = omega arith in
+    l.invariant.1
+    ∙ ap (λ (n : ℕ). verdict (items n (fall_test (net_of a.net.now) (row_height a.dh a.step)))) all
+    ∙ sym (room_enough _ _ a.rows a.cells (omega arith))
+
+pub fall_tested-falls-requires : goal.fall_tested-falls-requires
+fall_tested-falls-requires c = (omega arith, omega arith, omega arith, omega arith)

@@ -1,0 +1,16 @@
+-- `survey::decode::decode_48` meets its contract: the format can be read. Assumes nothing.
+use Rattle.std.proofs.Common.{◌∙◌, ap}
+use Rattle.file.specs.Format.{format48}
+use Rattle.file.specs.SectionLaws.{format48_readable}
+use Rattle.survey.specs.Survey.{decoded_as}
+use Rattle.survey.specs.SurveyLaws.{decoded_as_fits}
+use Rattle.survey.proofs.decode.decode_48.Goals as goal
+
+pub decode_as-requires : goal.decode_as-requires
+decode_as-requires c = rw c.header_of_48.ensures format48_readable
+
+pub returns : goal.returns
+returns c =
+    let s = c.args.s.now in
+    let is = c.decode_as.ensures ∙ ap (λ f. decoded_as f s) c.header_of_48.ensures in
+    (is, rw is (decoded_as_fits format48 s format48_readable))

@@ -1,0 +1,8 @@
+-- `text::put::put_two_decimals` meets its contract: the point and the two digits, one after another. Assumes nothing.
+use Rattle.text.specs.PutLaws.{put_both}
+use Rattle.text.proofs.put.put_two_decimals.Goals as goal
+
+pub returns : goal.returns
+returns c =
+    let tenth = c in
+    put_both (put_both tenth.put_byte-pointed.ensures tenth.put_digit-tenth.ensures) c.put_digit.ensures
