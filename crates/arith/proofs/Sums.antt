@@ -6,7 +6,7 @@ use lib.IntN.{ℤ, ◌+ℤ◌}
 use lib.Signed.{mag}
 use mir.Syntax.{w64}
 use mir.Val.{SFits}
-use Rattle.laws.specs.SignedLaws.{sum_size}
+use Rattle.laws.proofs.SignedLaws.{sum_size}
 
 pub small-fits : {z : ℤ} → mag z ≤ 2 ^ 61 → SFits w64 z
 small-fits {z} h = record { sfits = omega arith }

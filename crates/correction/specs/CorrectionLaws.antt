@@ -3,7 +3,7 @@
 use Rattle.std.specs.Prelude.{ℕ, suc, ◌+◌, ◌-◌, ◌/◌, ◌≤◌, min, ◌≡◌, pos, ◌+ℤ◌}
 use Rattle.std.proofs.Common.{◌∙◌, ap, arith}
 use Rattle.laws.specs.OrderLaws.{by_order}
-use Rattle.laws.specs.HalfLaws.{half_up, half_down, difference_up, difference_down}
+use Rattle.laws.proofs.HalfLaws.{half_up, half_down, difference_up, difference_down}
 use Rattle.correction.specs.Correction.{held_within, corrected_height}
 
 -- where D is DH + t

@@ -4,7 +4,7 @@ use Rattle.std.specs.Prelude.{◌≡◌, refl, ℕ, zero, suc, ◌+◌, ◌*◌,
 use Rattle.std.proofs.Common.{mul-le-mul, le_refl, le_trans, arith}
 use Rattle.std.specs.Int.Signed.{mag}
 use Rattle.laws.specs.Signed.{sumℤ}
-use Rattle.laws.specs.SignedLaws.{sumℤ-zero, sumℤ-size}
+use Rattle.laws.proofs.SignedLaws.{sumℤ-zero, sumℤ-size}
 use Rattle.measure.specs.Quantity.{dip_units}
 use Rattle.deadwood.specs.declared.item.Deadwood.{Deadwood}
 use Rattle.deadwood.specs.Item.{most_items, largest_volume, item_at}

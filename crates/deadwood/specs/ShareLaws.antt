@@ -5,9 +5,9 @@ use borrow.Author.Tests.{le-leb, lt-leb}
 use Rattle.std.specs.Int.Signed.{mag}
 use Rattle.laws.specs.OrderLaws.{by_order}
 use Rattle.laws.specs.Signed.{with_sign}
-use Rattle.laws.specs.SignedLaws.{sign_size}
+use Rattle.laws.proofs.SignedLaws.{sign_size}
 use Rattle.laws.specs.Nearest.{nearest}
-use Rattle.laws.specs.NearestLaws.{nearest_at_most}
+use Rattle.laws.proofs.NearestLaws.{nearest_at_most}
 use Rattle.measure.specs.Quantity.{dip_units}
 use Rattle.deadwood.specs.declared.item.Deadwood.{Deadwood}
 use Rattle.deadwood.specs.Share.{share_size, share}

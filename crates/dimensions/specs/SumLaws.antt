@@ -1,7 +1,7 @@
 -- How large the sums over courses within their limits can be, and D1 and D2, which are no more than what they are made of. Assumes nothing.
 use Rattle.std.specs.Prelude.{ℕ, zero, suc, ◌+◌, ◌*◌, ◌^◌, ◌≤◌, ◌<◌, ◌≡◌, List}
 use Rattle.std.proofs.Common.{le_refl, mul-le-mul, mul-le-mul_left, arith}
-use Rattle.laws.specs.NearestLaws.{nearest_at_most}
+use Rattle.laws.proofs.NearestLaws.{nearest_at_most}
 use Rattle.measure.specs.Pi.{pi_over, pi_under}
 use Rattle.tank.specs.Limits.{longest_shell}
 use Rattle.file.specs.declared.format.Format.{Format}

@@ -2,7 +2,7 @@
 -- nothing is cut at 0 in D1 and D2, and each with the wall is its outer diameter again. Assumes nothing.
 use Rattle.std.specs.Prelude.{ℕ, zero, suc, ◌+◌, ◌*◌, ◌≤◌, ◌<◌, ◌≡◌, List}
 use Rattle.std.proofs.Common.{le_refl, mul-le-mul_right, arith}
-use Rattle.laws.specs.NearestLaws.{nearest_at_most, nearest_at_least}
+use Rattle.laws.proofs.NearestLaws.{nearest_at_most, nearest_at_least}
 use Rattle.measure.specs.Pi.{pi_over, pi_under}
 use Rattle.file.specs.declared.format.Format.{Format}
 use Rattle.file.specs.Word.{word}

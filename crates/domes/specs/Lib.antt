@@ -1,8 +1,4 @@
 -- A dome, a spherical cap head (document 02, E2): its level width (Width), its cells (Cell) and their totals (Dome). The other files are laws.
 pub mod Width
-pub mod WidthLaws
 pub mod Cell
-pub mod CellLaws
 pub mod Dome
-pub mod TotalLaws
-pub mod CutLaws

@@ -12,10 +12,11 @@ use Rattle.circle.specs.ChordLaws.{rises, falls, widest, square_between, square_
 use Rattle.slabs.specs.Fraction.{Fraction, whole, ◌⊕◌, ◌⊑◌}
 use Rattle.slabs.specs.Slab.{Cut, Some, smaller_face}
 use Rattle.slabs.specs.FaceLaws.{smaller_le_lower}
-use Rattle.slabs.specs.CutLaws.{Measures, faces_fit_under, faces_close, faces_refine}
+use Rattle.slabs.specs.CutLaws.{Measures}
+use Rattle.slabs.proofs.CutLaws.{faces_fit_under, faces_close, faces_refine}
 use Rattle.domes.specs.Dome.{cut_fitting, cut_covering}
-use Rattle.domes.specs.TotalLaws.{cut_fits_under}
-use Rattle.domes.specs.CutLaws.{cut_refines, cut_closes}
+use Rattle.domes.proofs.TotalLaws.{cut_fits_under}
+use Rattle.domes.proofs.CutLaws.{cut_refines, cut_closes}
 use Rattle.heads.specs.declared.kind.HeadKind.{HeadKind}
 use Rattle.heads.specs.declared.kind.HeadKind.TheVariants.{Flat, HalfEllipsoid, SphericalCap}
 use Rattle.heads.specs.LengthLaws.{HeadLimits, cap_limits}

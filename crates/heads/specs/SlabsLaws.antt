@@ -3,7 +3,7 @@
 use Rattle.std.specs.Prelude.{ℕ, ◌+◌, ◌*◌, ◌-◌, ◌≤◌, ◌<◌, ◌≡◌, refl}
 use Rattle.std.proofs.Math.Nat.{le_dest}
 use Rattle.std.proofs.Common.{mul-le-mul_left, arith}
-use Rattle.laws.specs.NearestLaws.{nearest_above, nearest_below}
+use Rattle.laws.proofs.NearestLaws.{nearest_above, nearest_below}
 use Rattle.measure.specs.Diameter.{largest}
 use Rattle.measure.specs.Quantity.{cubic_per_v}
 use Rattle.laws.specs.Nearest.{nearest}
@@ -11,7 +11,7 @@ use Rattle.slabs.specs.Fraction.{Fraction, whole, ◌⊕◌, ◌⊑◌}
 use Rattle.slabs.specs.Slab.{Cut, Some}
 use Rattle.slabs.specs.WithinLaws.{Within}
 use Rattle.domes.specs.Dome.{dome_fitting, dome_covering, cut_fitting, cut_covering}
-use Rattle.domes.specs.TotalLaws.{cut_fits, cut_covers, dome_fits_under}
+use Rattle.domes.proofs.TotalLaws.{cut_fits, cut_covers, dome_fits_under}
 use Rattle.measure.specs.Pi.{pi_over, pi_under}
 use Rattle.heads.specs.declared.kind.HeadKind.{HeadKind}
 use Rattle.heads.specs.declared.kind.HeadKind.TheVariants.{Flat, HalfEllipsoid, SphericalCap}

@@ -3,12 +3,12 @@
 use Rattle.std.specs.Prelude.{ℕ, ◌+◌, ◌*◌, ◌-◌, ◌≤◌, ◌<◌, ◌≡◌}
 use Rattle.std.proofs.Common.{ap, le_refl, le_trans, add-le-add, mul-le-mul, mul-le-mul_left, mul_assoc, arith}
 use Rattle.laws.specs.Nearest.{nearest}
-use Rattle.laws.specs.NearestLaws.{nearest_mono, nearest_at_most, nearest_cancel}
+use Rattle.laws.proofs.NearestLaws.{nearest_mono, nearest_at_most, nearest_cancel}
 use Rattle.measure.specs.Diameter.{largest}
 use Rattle.measure.specs.Quantity.{cubic_per_v}
 use Rattle.measure.specs.Pi.{pi_over, pi_under}
 use Rattle.domes.specs.Dome.{dome_fitting, dome_covering}
-use Rattle.domes.specs.TotalLaws.{fitting_mono, covering_mono, dome_at_most}
+use Rattle.domes.proofs.TotalLaws.{fitting_mono, covering_mono, dome_at_most}
 use Rattle.heads.specs.declared.kind.HeadKind.{HeadKind}
 use Rattle.heads.specs.declared.kind.HeadKind.TheVariants.{Flat, HalfEllipsoid, SphericalCap}
 use Rattle.heads.specs.Length.{longest}

@@ -11,13 +11,9 @@ pub mod SearchLaws
 pub mod Sum
 pub mod SumLaws
 pub mod Root
-pub mod RootLaws
-pub mod FractionRootLaws
 pub mod Nearest
 pub mod NearestLaws
 pub mod Half
-pub mod HalfLaws
 pub mod Signed
-pub mod SignedLaws
 pub mod Fill
 pub mod FillLaws

@@ -2,7 +2,7 @@
 use Rattle.std.specs.Prelude.{ℕ, zero, suc, ◌^◌, ◌≤◌, ◌<◌, ℤ, pos, negsuc, nat_abs, length}
 use Rattle.std.proofs.Common.{arith, length-append}
 use Rattle.std.specs.Int.Signed.{mag}
-use Rattle.laws.specs.SignedLaws.{nat_abs_at_most}
+use Rattle.laws.proofs.SignedLaws.{nat_abs_at_most}
 use Rattle.text.specs.DigitsLaws.{digits_at_most, hundredths_at_most, hundredths_of_64}
 use Rattle.lines.specs.Lines.{rows_line, row_line, refused_line, figure_line, sign_of, signed_line, line_size, row_size}
 

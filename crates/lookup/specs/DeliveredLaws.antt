@@ -7,8 +7,8 @@ use Rattle.std.proofs.Math.IntN.{+ℤ_assoc, +ℤ_comm, +ℤ_invr, neg_ℤ-neg_�
 use Rattle.std.specs.Int.Signed.{non_neg}
 use Rattle.laws.specs.BoolLaws.{by_test}
 use Rattle.laws.specs.Exactly.{Exactly}
-use Rattle.laws.specs.HalfLaws.{difference_up}
-use Rattle.laws.specs.SignedLaws.{minus}
+use Rattle.laws.proofs.HalfLaws.{difference_up}
+use Rattle.laws.proofs.SignedLaws.{minus}
 use Rattle.measure.specs.Quantity.{volume_units}
 use Rattle.refusal.specs.declared.Refusal.{Refusal}
 use Rattle.refusal.specs.declared.Verdict.{Verdict}

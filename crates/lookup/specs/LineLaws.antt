@@ -3,7 +3,7 @@
 use Rattle.std.specs.Prelude.{ℕ, ◌+◌, ◌*◌, ◌-◌, ◌≤◌, ◌<◌, ◌≡◌}
 use Rattle.std.proofs.Common.{◌∙◌, ap, mul-le-mul_right, arith}
 use Rattle.laws.specs.Nearest.{nearest}
-use Rattle.laws.specs.NearestLaws.{nearest_mono, nearest_of_multiple, nearest_at_most, nearest_at_least}
+use Rattle.laws.proofs.NearestLaws.{nearest_mono, nearest_of_multiple, nearest_at_most, nearest_at_least}
 use Rattle.lookup.specs.Line.{line_value}
 
 -- x above the lower row is y below the upper

@@ -5,7 +5,7 @@ use Rattle.std.specs.Prelude.{ℕ, ◌+◌, ◌*◌, ◌-◌, ◌≤◌, ◌<◌
 use Rattle.std.proofs.Common.{sym, ◌∙◌, ap, add-mul, arith}
 use Rattle.laws.specs.BoolLaws.{true_not_false}
 use Rattle.laws.specs.Nearest.{nearest}
-use Rattle.laws.specs.NearestLaws.{nearest_of_sum, nearest_of_multiple}
+use Rattle.laws.proofs.NearestLaws.{nearest_of_sum, nearest_of_multiple}
 use Rattle.slabs.specs.Fraction.{◌⊕◌, ◌≃◌}
 use Rattle.slabs.specs.FractionLaws.{sum_over_one}
 use Rattle.circle.specs.Circle.{doubled_area}

@@ -6,7 +6,7 @@ use Rattle.std.proofs.Math.Nat.{min-le_left}
 use Rattle.std.proofs.Math.IntN.{+ℤ_idr}
 use Rattle.std.proofs.Math.ListN.{get_or-append}
 use Rattle.std.specs.Int.Signed.{non_neg}
-use Rattle.laws.specs.SignedLaws.{sum_size, negated_size, nat_abs_at_most}
+use Rattle.laws.proofs.SignedLaws.{sum_size, negated_size, nat_abs_at_most}
 use Rattle.laws.specs.Fill.{rows_of}
 use Rattle.laws.specs.FillLaws.{length_rows_of, get_or_rows_of}
 use Rattle.measure.specs.Quantity.{diameter_units}

@@ -2,9 +2,9 @@
 -- every circumference, which is 1,500 mm or more, is larger than what is taken off it. Assumes nothing.
 use Rattle.std.specs.Prelude.{ℕ, ◌+◌, ◌*◌, ◌≤◌, ◌<◌, ◌≡◌}
 use Rattle.std.proofs.Common.{mul-le-mul, arith}
-use Rattle.laws.specs.NearestLaws.{nearest_at_most}
+use Rattle.laws.proofs.NearestLaws.{nearest_at_most}
 use Rattle.laws.specs.Root.{root, root_of}
-use Rattle.laws.specs.FractionRootLaws.{root_of_square_law, root_of_next, root_of_order}
+use Rattle.laws.proofs.FractionRootLaws.{root_of_square_law, root_of_next, root_of_order}
 use Rattle.measure.specs.Diameter.{smallest}
 use Rattle.seams.specs.declared.seam.Seam.{Seam}
 use Rattle.seams.specs.Seam.{seam, no_seam}

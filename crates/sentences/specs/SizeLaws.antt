@@ -7,7 +7,7 @@ use Rattle.std.proofs.Common.{arith, ltb-true, length-append}
 use Rattle.std.specs.Int.Signed.{mag}
 use Rattle.laws.specs.Order.{pick}
 use Rattle.laws.specs.BoolLaws.{by_test, both_pass}
-use Rattle.laws.specs.SignedLaws.{nat_abs_at_most}
+use Rattle.laws.proofs.SignedLaws.{nat_abs_at_most}
 use Rattle.refusal.specs.declared.About.{About}
 use Rattle.text.specs.Ascii.{ascii}
 use Rattle.text.specs.DigitsLaws.{digits_at_most, digits_of_64, minus_at_most}

@@ -7,7 +7,8 @@ use native.Mathlib.Omega.{arith}
 use Rattle.circle.specs.Circle.{chord, chord_up}
 use Rattle.circle.specs.ChordLaws.{rises, falls, chord_mono, chord_widest, chord_between, chord_at_middle, chord_finer, chord_up_near}
 use Rattle.slabs.specs.Fraction.{◌⊕◌, ◌⊑◌}
-use Rattle.slabs.specs.CutLaws.{Measures, faces_fit_under, faces_close, faces_refine}
+use Rattle.slabs.specs.CutLaws.{Measures}
+use Rattle.slabs.proofs.CutLaws.{faces_fit_under, faces_close, faces_refine}
 use Rattle.tank.specs.Slabs.{cylinder_fitting, cylinder_covering}
 
 widths : (d n : ℕ) → Measures d n 1 (n * d) (chord (n * d)) (chord_up (n * d))

@@ -1,7 +1,7 @@
 -- What no cylinder within the limits exceeds: the product that its volume is rounded from, and the volume. Assumes nothing.
 use Rattle.std.specs.Prelude.{ℕ, ◌+◌, ◌*◌, ◌≤◌}
 use Rattle.std.proofs.Common.{le_trans, mul-le-mul, add-le-add, arith}
-use Rattle.laws.specs.NearestLaws.{nearest_at_most}
+use Rattle.laws.proofs.NearestLaws.{nearest_at_most}
 use Rattle.measure.specs.Diameter.{largest}
 use Rattle.measure.specs.Quantity.{cubic_per_v}
 use Rattle.circle.specs.Circle.{doubled_area}

@@ -5,7 +5,7 @@ use Rattle.std.specs.Prelude.{ℕ, ◌+◌, ◌*◌, ◌/◌, ◌≤◌, ◌<◌
 use Rattle.std.proofs.Common.{mul-le-mul_left, arith}
 use Rattle.laws.specs.Sum.{sum}
 use Rattle.laws.specs.SumLaws.{blocks_at_least, blocks_at_most}
-use Rattle.laws.specs.NearestLaws.{nearest_above, nearest_below}
+use Rattle.laws.proofs.NearestLaws.{nearest_above, nearest_below}
 use Rattle.measure.specs.Quantity.{cubic_per_v}
 use Rattle.circle.specs.Circle.{chord, doubled_area, chord_up}
 use Rattle.slabs.specs.Slab.{smaller_face, larger_face}

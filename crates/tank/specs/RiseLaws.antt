@@ -2,7 +2,7 @@
 -- height falls. Assumes nothing.
 use Rattle.std.specs.Prelude.{ℕ, ◌*◌, ◌≤◌, ◌<◌, List, [], ◌∷◌, map}
 use Rattle.std.proofs.Common.{le_refl, add-le-add, mul-le-mul_right, arith}
-use Rattle.laws.specs.NearestLaws.{nearest_mono}
+use Rattle.laws.proofs.NearestLaws.{nearest_mono}
 use Rattle.measure.specs.Quantity.{diameter_units, cubic_per_v}
 use Rattle.correction.specs.CorrectionLaws.{corrected_mono}
 use Rattle.circle.specs.AreaLaws.{area_mono}

@@ -1,7 +1,8 @@
 -- `arith::nearest::round_rest` meets its contract: the tests are those of the laws that say where a rest goes. Assumes nothing.
 use Rattle.std.proofs.Common.{arith, ◌+◌, ◌*◌, ◌≡◌, sym}
 use Rattle.laws.specs.Nearest.{nearest}
-use Rattle.laws.specs.NearestLaws.{EvenOf, nearest_of_less, nearest_of_more, nearest_of_half}
+use Rattle.laws.specs.NearestLaws.{EvenOf}
+use Rattle.laws.proofs.NearestLaws.{nearest_of_less, nearest_of_more, nearest_of_half}
 use Rattle.arith.proofs.nearest.round_rest.Goals as goal
 
 halfway : (start : tie.Start) → let a = start.args in a.rest + a.rest ≡ a.divisor → EvenOf a.quotient (nearest (a.quotient * a.divisor + a.rest) a.divisor)

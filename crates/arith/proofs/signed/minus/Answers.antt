@@ -1,6 +1,6 @@
 -- `arith::signed::minus` meets its contract: the result fits. Assumes nothing.
 use Rattle.std.proofs.Common.{arith, neg_ℤ, w64, to_z-of_z}
-use Rattle.laws.specs.SignedLaws.{negated_size}
+use Rattle.laws.proofs.SignedLaws.{negated_size}
 use Rattle.arith.proofs.Sums.{sum_fits}
 use Rattle.arith.proofs.signed.minus.Goals as goal
 

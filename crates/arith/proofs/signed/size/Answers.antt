@@ -1,6 +1,6 @@
 -- `arith::signed::size` meets its contract: by the sign, which the test tells. Assumes nothing.
 use Rattle.std.proofs.Common.{arith, ◌≡◌, ap, ℕ, suc, ◌+◌, ◌^◌, ◌<◌, negsuc, mag, w64, to_z-of_z, to_z_pos}
-use Rattle.laws.specs.SignedLaws.{negative, natural}
+use Rattle.laws.proofs.SignedLaws.{negative, natural}
 use Rattle.arith.proofs.signed.size.Goals as goal
 
 -- below zero: z is -(n + 1), and its size fits

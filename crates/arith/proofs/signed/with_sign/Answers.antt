@@ -1,6 +1,6 @@
 -- `arith::signed::with_sign` meets its contract: by the sign, which the test tells. Assumes nothing.
 use Rattle.std.proofs.Common.{arith, ◌≡◌, ◌∙◌, ap, ℕ, ◌^◌, ◌<◌, pos, neg_ℤ, ◌-ℤ◌, +ℤ_idl, w64, to_z, to_z-of_z, to_z_pos}
-use Rattle.laws.specs.SignedLaws.{negative, natural, negated_size}
+use Rattle.laws.proofs.SignedLaws.{negative, natural, negated_size}
 use Rattle.arith.proofs.Sums.{small-fits}
 use Rattle.arith.proofs.signed.with_sign.Goals as goal
 

@@ -1,6 +1,6 @@
 -- `correction::shell_height::held_within` meets its contract: by the sign of x, which the first test tells. Assumes nothing.
 use Rattle.std.proofs.Common.{arith, ◌≡◌, sym, ◌∙◌, ap, false, ℕ, min, min-eq_left, min-eq_right, le_of_lt, T, ℤ, pos, nat_abs, mag, lt_z, non_neg, w64, Fits, SFits, to_z-of_z}
-use Rattle.laws.specs.SignedLaws.{negative, natural}
+use Rattle.laws.proofs.SignedLaws.{negative, natural}
 use Rattle.correction.specs.Correction.{held_within}
 use Rattle.correction.proofs.shell_height.held_within.Goals as goal
 

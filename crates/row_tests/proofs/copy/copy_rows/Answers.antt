@@ -2,7 +2,7 @@
 -- The measure is the number of rows left. Assumes nothing.
 use Rattle.std.proofs.Common.{arith, ◌≡◌, ◌∙◌, ap, ◌-◌, nat_abs, w64, to_z-of_z}
 use Rattle.laws.specs.FillLaws.{filled_none, filled_more, filled_all}
-use Rattle.laws.specs.SignedLaws.{mag_at_most}
+use Rattle.laws.proofs.SignedLaws.{mag_at_most}
 use Rattle.rows.specs.RowLaws.{net_of, cell_in}
 use Rattle.row_tests.proofs.copy.copy_rows.Goals as goal
 

@@ -5,7 +5,7 @@ use lib.Signed.{non_neg}
 use mir.Syntax.{w64}
 use mir.ValLaws.{to_z-of_z}
 use Rattle.laws.specs.BoolLaws.{true_not_false}
-use Rattle.laws.specs.SignedLaws.{negative}
+use Rattle.laws.proofs.SignedLaws.{negative}
 use Rattle.streams.proofs.again.may_pass.Statement.{statement}
 use Rattle.streams.proofs.again.may_pass.Tie as tie
 

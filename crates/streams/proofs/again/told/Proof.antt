@@ -4,7 +4,7 @@ use native.Mathlib.Omega.{arith}
 use borrow.Author.Rules.{rules}
 use mir.Syntax.{w64}
 use mir.ValLaws.{to_z-of_z}
-use Rattle.laws.specs.SignedLaws.{negative, natural}
+use Rattle.laws.proofs.SignedLaws.{negative, natural}
 use Rattle.streams.proofs.again.told.Statement.{statement}
 use Rattle.streams.proofs.again.told.Tie as tie
 

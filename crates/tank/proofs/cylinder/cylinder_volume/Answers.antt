@@ -1,6 +1,6 @@
 -- `tank::cylinder::cylinder_volume` meets its contract: in v the volume fits 32 bits. Assumes nothing.
 use Rattle.std.proofs.Common.{arith, ◌∙◌, ap, ◌*◌, ◌^◌, ◌-◌}
-use Rattle.laws.specs.NearestLaws.{nearest_at_most}
+use Rattle.laws.proofs.NearestLaws.{nearest_at_most}
 use Rattle.measure.specs.Quantity.{cubic_per_v, volume}
 use Rattle.tank.proofs.cylinder.cylinder_volume.Goals as goal
 

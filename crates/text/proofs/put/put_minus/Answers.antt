@@ -1,6 +1,6 @@
 -- `text::put::put_minus` meets its contract: by the sign, which the test tells. Assumes nothing.
 use Rattle.std.proofs.Common.{w64, to_z-of_z}
-use Rattle.laws.specs.SignedLaws.{negative, natural}
+use Rattle.laws.proofs.SignedLaws.{negative, natural}
 use Rattle.text.specs.PutLaws.{put_nothing}
 use Rattle.text.proofs.put.put_minus.Goals as goal
 

@@ -1,7 +1,7 @@
 -- `text::put::size` meets its contract: by the sign, which the test tells; -1 - z of a z below zero is one less than its size. Assumes nothing.
 use Rattle.std.proofs.Common.{arith, ◌≡◌, ap, ℕ, suc, ◌+◌, ◌^◌, ◌<◌, ℤ, pos, negsuc, nat_abs, ◌-ℤ◌, mag, w64, SFits, to_z, of_z, to_z-of_z}
-use Rattle.laws.specs.HalfLaws.{difference_up}
-use Rattle.laws.specs.SignedLaws.{negative, natural}
+use Rattle.laws.proofs.HalfLaws.{difference_up}
+use Rattle.laws.proofs.SignedLaws.{negative, natural}
 use Rattle.text.proofs.put.size.Goals as goal
 
 -- below zero: z is -(n + 1), and -1 - z is n

@@ -1,7 +1,7 @@
 -- `deadwood::item::Deadwood::share` meets its contract: the size of the volume, its share, and the sign. Assumes nothing.
 use Rattle.std.proofs.Common.{arith, rules, ◌≡◌, ◌∙◌, ap₂, nat_abs, w64, to_z, of_z, to_z-of_z}
 use Rattle.laws.specs.Signed.{with_sign}
-use Rattle.laws.specs.SignedLaws.{mag_at_most}
+use Rattle.laws.proofs.SignedLaws.{mag_at_most}
 use Rattle.deadwood.specs.Share.{share}
 use Rattle.deadwood.specs.ShareLaws.{share_size_at_most}
 use Rattle.deadwood.proofs.item.Deadwood.share.Goals as goal

@@ -8,7 +8,7 @@ use lib.IntN.{ℤ, ◌+ℤ◌}
 use lib.ListN.{length}
 use lib.Signed.{mag}
 use Rattle.laws.specs.Signed.{sumℤ}
-use Rattle.laws.specs.SignedLaws.{sumℤ-suc}
+use Rattle.laws.proofs.SignedLaws.{sumℤ-suc}
 use Rattle.deadwood.specs.declared.item.Deadwood.{Deadwood}
 use Rattle.deadwood.specs.Share.{share_in, shares_of}
 use Rattle.deadwood.specs.ListLaws.{DeadwoodLimits, share_small, sum_small}

@@ -7,7 +7,7 @@ use Rattle.std.specs.Int.Signed.{mag, lt_z}
 use Rattle.laws.specs.OrderLaws.{by_order}
 use Rattle.laws.specs.BoolLaws.{true_not_false}
 use Rattle.laws.specs.Half.{floor_half}
-use Rattle.laws.specs.HalfLaws.{difference_up, difference_down}
+use Rattle.laws.proofs.HalfLaws.{difference_up, difference_down}
 use Rattle.laws.specs.Signed.{with_sign, sumℤ}
 
 pub minus : (a b : ℕ) → pos a -ℤ pos b ≡ sub_ℕ a b

@@ -1,0 +1,4 @@
+pub mod WidthLaws
+pub mod CellLaws
+pub mod CutLaws
+pub mod TotalLaws
