@@ -4,7 +4,7 @@ use Rattle.std.specs.Prelude.{ℕ, ◌*◌, ◌≤◌, ◌<◌, List, [], ◌∷
 use Rattle.std.proofs.Common.{le_refl, add-le-add, mul-le-mul_right, arith}
 use Rattle.laws.proofs.NearestLaws.{nearest_mono}
 use Rattle.measure.specs.Quantity.{diameter_units, cubic_per_v}
-use Rattle.correction.specs.CorrectionLaws.{corrected_mono}
+use Rattle.correction.proofs.CorrectionLaws.{corrected_mono}
 use Rattle.circle.proofs.AreaLaws.{area_mono}
 use Rattle.heads.proofs.VolumeLaws.{heads_mono}
 use Rattle.tank.specs.declared.tank.Tank.{Tank}
