@@ -1,0 +1,4 @@
+pub mod ChordLaws
+pub mod WalkLaws
+pub mod MirrorLaws
+pub mod AreaLaws
