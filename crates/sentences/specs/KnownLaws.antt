@@ -4,7 +4,7 @@ use Rattle.std.specs.Prelude.{◌≡◌, Bool, true, ◌&&◌, List, [], ◌∷�
 use Rattle.refusal.specs.declared.Refusal.{Refusal}
 use Rattle.refusal.specs.declared.Verdict.{Verdict}
 use Rattle.refusal.specs.declared.Verdict.TheVariants.{Passed, Refused}
-use Rattle.refusal.specs.Test.{Test, refusal_of, verdict, in_use}
+use Rattle.refusal.specs.Test.{Test, refusal_of, in_use}
 use Rattle.sentences.specs.Sentences.{told}
 
 abbrev pub is_known : Refusal → Bool
