@@ -6,7 +6,8 @@ use Rattle.std.proofs.Common.{ltb-true}
 use Rattle.laws.specs.BoolLaws.{by_test}
 use Rattle.refusal.specs.TestLaws.{passed_all, within_pass}
 use Rattle.seams.specs.Seam.{no_seam}
-use Rattle.seams.specs.RiseLaws.{most_rise, tape_rise_at_most}
+use Rattle.seams.specs.RiseLaws.{most_rise}
+use Rattle.seams.proofs.RiseLaws.{tape_rise_at_most}
 use Rattle.file.specs.declared.format.Format.{Format}
 use Rattle.file.specs.Word.{word}
 use Rattle.file.specs.Layout.{dh_at, first_in, second_in}

@@ -1,7 +1,7 @@
 -- `seams::rise::tape_rise` meets its contract: its terms are the definition's, and small. Assumes nothing.
 use Rattle.std.proofs.Common.{arith, ap₂, ℕ, ◌+◌}
 use Rattle.seams.specs.Rise.{tape_rise}
-use Rattle.seams.specs.RiseLaws.{first_term_at_most, second_term_at_most}
+use Rattle.seams.proofs.RiseLaws.{first_term_at_most, second_term_at_most}
 use Rattle.seams.proofs.rise.tape_rise.Goals as goal
 
 pub overflow_add-result : goal.overflow_add-result
