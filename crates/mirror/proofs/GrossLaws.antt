@@ -2,7 +2,7 @@
 use Rattle.std.specs.Prelude.{ℕ, ◌+◌, ◌<◌, ◌≡◌, refl, true, List, [], ◌∷◌, map, length}
 use Rattle.std.proofs.Common.{arith}
 use Rattle.measure.specs.Quantity.{diameter_units}
-use Rattle.correction.specs.CorrectionLaws.{corrected_same}
+use Rattle.correction.proofs.CorrectionLaws.{corrected_same}
 use Rattle.tank.specs.declared.tank.Tank.{Tank}
 use Rattle.tank.specs.Part.{Part, volume_of, gross}
 use Rattle.tank.specs.Tank.{parts_of, filled_to, filled_at, gross_at}
