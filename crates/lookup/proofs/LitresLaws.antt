@@ -11,7 +11,7 @@ use Rattle.schedule.specs.Rows.{row_count, row_height, row_below}
 use Rattle.schedule.specs.RowsLaws.{before_last, count_pos, height_before_last, height_at_last, height_at_most, heights_rise, below_top, below_inside, inside_count, inside_above, inside_below, height_in_steps}
 use Rattle.lookup.specs.Table.{row}
 use Rattle.lookup.specs.TableLaws.{SoundTable}
-use Rattle.lookup.specs.LineLaws.{by_both, line_at_lower, line_at_upper, line_at_least, line_at_most, line_rises}
+use Rattle.lookup.proofs.LineLaws.{by_both, line_at_lower, line_at_upper, line_at_least, line_at_most, line_rises}
 use Rattle.lookup.specs.Litres.{above, litres, BetweenRows, OnTable}
 
 module _ (dh step : ℕ) (table : List ℕ) (s : SoundTable dh step table) where

@@ -19,10 +19,20 @@ use Rattle.lookup.specs.declared.delivered.DeliveredAnswer.{DeliveredAnswer}
 use Rattle.lookup.specs.Table.{sound_table}
 use Rattle.lookup.specs.TableLaws.{sound}
 use Rattle.lookup.specs.Litres.{litres}
-use Rattle.lookup.specs.LitresLaws.{litres_mono, never_falls_only}
+use Rattle.lookup.proofs.LitresLaws.{litres_mono, never_falls_only}
 use Rattle.lookup.specs.Answer.{too_high, litres_answer, ReadOff, TooHigh}
-use Rattle.lookup.specs.AnswerLaws.{up_to, read_off, refused_above}
+use Rattle.lookup.proofs.AnswerLaws.{up_to, read_off, refused_above}
 use Rattle.lookup.specs.Delivered.{delivered_by, delivered_answer, ReadOffBoth, higher}
+
+abbrev delivered_refusal : DeliveredAnswer → ℕ
+delivered_refusal (DeliveredAnswer.Litres d) = 0
+delivered_refusal (DeliveredAnswer.Refused r) = r.number
+
+-- ---- the two tests as one: of the higher height, about the first that is above DH
+
+abbrev difference_by : Verdict → ℤ → DeliveredAnswer
+difference_by Passed d = DeliveredAnswer.Litres d
+difference_by (Refused r) d = DeliveredAnswer.Refused r
 
 -- ---- differences
 
@@ -40,16 +50,6 @@ taken_off y d z e = sym (+ℤ-neg_ℤ_cancel d y) ∙ ap (λ w. w -ℤ y) (+ℤ_
 
 not_below_zero : (m n : ℕ) → m ≤ n → non_neg (pos n -ℤ pos m) ≡ true
 not_below_zero m n l = rw (minus n m, difference_up n m (n - m) (omega arith))
-
--- ---- the two tests as one: of the higher height, about the first that is above DH
-
-abbrev difference_by : Verdict → ℤ → DeliveredAnswer
-difference_by Passed d = DeliveredAnswer.Litres d
-difference_by (Refused r) d = DeliveredAnswer.Refused r
-
-abbrev delivered_refusal : DeliveredAnswer → ℕ
-delivered_refusal (DeliveredAnswer.Litres d) = 0
-delivered_refusal (DeliveredAnswer.Refused r) = r.number
 
 same_litres : {y z : ℤ} → DeliveredAnswer.Litres y ≡ DeliveredAnswer.Litres z → y ≡ z
 same_litres e = cc

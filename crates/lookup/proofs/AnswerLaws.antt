@@ -19,20 +19,20 @@ use Rattle.lookup.specs.declared.height.HeightAnswer.{HeightAnswer}
 use Rattle.lookup.specs.Table.{last_row, sound_table}
 use Rattle.lookup.specs.TableLaws.{sound}
 use Rattle.lookup.specs.Litres.{litres}
-use Rattle.lookup.specs.LitresLaws.{on_table, never_falls_only, litres_at_top}
+use Rattle.lookup.proofs.LitresLaws.{on_table, never_falls_only, litres_at_top}
 use Rattle.lookup.specs.Height.{height_for}
-use Rattle.lookup.specs.HeightLaws.{lowest_is, reached}
+use Rattle.lookup.proofs.HeightLaws.{lowest_is, reached}
 use Rattle.lookup.specs.Answer.{unsound, too_high, too_much, litres_by, litres_answer, ReadOff, TooHigh, height_by, height_answer, Reached, TooMuch}
+
+abbrev height_refusal : HeightAnswer → ℕ
+height_refusal (HeightAnswer.Height h) = 0
+height_refusal (HeightAnswer.Refused r) = r.number
 
 -- the number of an answer's refusal, 0 for none
 
 abbrev litres_refusal : LitresAnswer → ℕ
 litres_refusal (LitresAnswer.Litres v) = 0
 litres_refusal (LitresAnswer.Refused r) = r.number
-
-abbrev height_refusal : HeightAnswer → ℕ
-height_refusal (HeightAnswer.Height h) = 0
-height_refusal (HeightAnswer.Refused r) = r.number
 
 module _ (dh step : ℕ) (table : List ℕ) where
   pub read_off : (h : ℕ) → ReadOff dh step table h (litres_answer dh step table h)
