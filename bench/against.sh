@@ -7,7 +7,7 @@ other=${1:?"expected: bench/against.sh OTHER/libcapi.a"}
 export CARGO_TARGET_DIR=$PWD/target/cargo CARGO_NET_OFFLINE=true
 unset RUSTFLAGS
 mkdir -p target/against
-rt staticlib capi 2>&1 | tail -n 1
+tests/build.sh | tail -n 1
 # shellcheck source=tests/archive_flags.sh
 source tests/archive_flags.sh
 cargo build --quiet --release --locked --jobs 2 --manifest-path bench/Cargo.toml

@@ -4,7 +4,7 @@ set -euo pipefail
 cd "$(dirname "$0")/.."
 export CARGO_TARGET_DIR=$PWD/target/cargo CARGO_NET_OFFLINE=true
 unset RUSTFLAGS
-rt staticlib capi 2>&1 | tail -n 1
+tests/build.sh | tail -n 1
 # shellcheck source=tests/archive_flags.sh
 source tests/archive_flags.sh
 cargo build --quiet --release --locked --jobs 2 --manifest-path bench/Cargo.toml

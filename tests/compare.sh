@@ -1,6 +1,6 @@
 #!/usr/bin/env bash
-# Holds the proved library to its C header and to the independent reference program: builds the archive and the programs, runs
-# the C test, the reference's own tests, those of the Rust wrapper, and the comparison of both over generated surveys and lookups.
+# Holds the proved library to its C header and to the independent reference program: takes the archive and the programs that tests/build.sh
+# built, runs the C test, the reference's own tests, those of the Rust wrapper, and the comparison of both over generated surveys and lookups.
 # Everything that is built or written goes to target/.
 set -euo pipefail
 cd "$(dirname "$0")/.."
@@ -25,9 +25,6 @@ quietly() {
 
 mkdir -p target/c
 
-step "the programs and libcapi.a"
-quietly rt check tanktable tanklookup tankconvert
-quietly tests/archive.sh
 archive=target/staticlib/libcapi.a
 
 step "the C test"

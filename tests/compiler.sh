@@ -4,14 +4,17 @@
 # through to the prover. Says what it tried; an edit that compiles, and one that is refused for another reason, are seen to be found.
 . "$(dirname "$0")/failures.sh"
 . tests/edit.sh
-room=target/must-not-compile
+# outside the repository, in which rt ci allows no sources but those of its crates
+room=$(mktemp -d)
+trap 'rm -rf "$room"' EXIT
 
 # What the compiler says of a crate with an edit: 'refused' if it is the edit's own error.
 verdict() {
     local expected first
     expected=$(sed -n 's/^error: //p' "$2")
-    edited "crates/$1" "$room/crates/$1" "$2" || { echo "its 'old:' text does not stand in the file once"; return; }
-    if (cd "$room" && rt mir "$1") >/dev/null 2>"$room/said"; then
+    edited "$room/plain/crates/$1" "$room/crates/$1" "$2" || { echo "its 'old:' text does not stand in the file once"; return; }
+    # no function has this name: the sources are read, and nothing is proved
+    if (cd "$room/crates/$1" && rt check --only "") >"$room/said" 2>&1; then
         echo "it compiles"
         return
     fi
@@ -23,12 +26,10 @@ edits=(crates/*/must-not-compile/*.edit)
 crate_of() { cut -d/ -f2 <<<"$1"; }
 mapfile -t crates < <(for edit in "${edits[@]}"; do crate_of "$edit"; done | sort -u)
 
-# The crates below must be proved before one of these is compiled; what stands in target/ is taken where it is up to date.
-rm -rf "$room"
-mkdir -p "$room/target"
-rt check "${crates[@]}" >"$room/said" 2>&1 || { cat "$room/said"; fail "the crates without an edit"; }
-cp -r crates crates.txt "$room"
-ln -s ../../rlib ../../stamp "$room/target"
+# without what rt keeps in out/
+mkdir "$room/plain"
+tar -cf - --exclude=out crates | tar -xf - -C "$room/plain"
+cp -r "$room/plain/crates" crates.txt "$room"
 
 for edit in "${edits[@]}"; do
     found=$(verdict "$(crate_of "$edit")" "$edit")

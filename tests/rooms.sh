@@ -5,7 +5,7 @@
 . "$(dirname "$0")/failures.sh"
 
 # The rooms that a line of crates.txt, or a row of the table, names. The kit's crates are left out.
-known() { tr ',' ' ' | tr -s ' ' '\n' | grep -vxE '|check|io|libc|os' | sort | paste -sd' '; }
+known() { tr ',' ' ' | tr -s ' ' '\n' | grep -vxE '|check|io' | sort | paste -sd' '; }
 listed() { sed -n "s/^$1: *//p" crates.txt | known; }
 drawn() { awk -F'|' -v room="\`$1\`" '{ split($2, names, ","); for (n in names) { gsub(/ /, "", names[n]); if (names[n] == room) print $4 } }' "$2" | known; }
 
@@ -19,7 +19,7 @@ differing() {
 
 # what reads bytes, cited or called in these folders
 bytes_seen() {
-    grep -rnP 'Rattle·(file\.specs\.(?!Format\.|declared\.format\.Format\.)|form\.|records\.|numbers\.|readings\.|dimensions\.specs\.(?!Dimensions\.)|survey\.specs\.Tests\.)' "$@"
+    grep -rnP 'Rattle\.(file\.(specs|proofs)\.(?!Format\.|declared\.format\.Format\.)|form\.|records\.|numbers\.|readings\.|dimensions\.(specs|proofs)\.(?!Dimensions\.)|survey\.specs\.Tests\.)' "$@"
     grep -rnE '^use (file|form|records|numbers|readings|dimensions)::' "$@"
 }
 
@@ -39,11 +39,11 @@ seen() {
     echo "$1" >"$sample/above.rt"
     [ -n "$(bytes_seen "$sample")" ]
 }
-for line in 'use Rattle·file.specs.Word.{word}' 'use Rattle·records.specs.Item.{itemFrom}' 'use Rattle·dimensions.specs.Tests.{dimensionTests}' \
-    'use Rattle·survey.specs.Tests.{fileTests}' 'use file::word::word;' 'use records::item::item_from;'; do
+for line in 'use Rattle.file.specs.Word.{word}' 'use Rattle.records.specs.Item.{item_from}' 'use Rattle.dimensions.specs.Tests.{dimension_tests}' \
+    'use Rattle.survey.specs.Tests.{file_tests}' 'use file::word::word;' 'use records::item::item_from;'; do
     seen "$line" || fail "not found: $line"
 done
-seen 'use Rattle·file.specs.Format.{today}' && fail "a format is taken for a byte"
+seen 'use Rattle.file.specs.Format.{today}' && fail "a format is taken for a byte"
 rm -r "$sample"
 
 echo "$rooms rooms and $files files looked at"

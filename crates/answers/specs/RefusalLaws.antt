@@ -9,7 +9,8 @@ use Rattle.refusal.specs.declared.Verdict.{Verdict}
 use Rattle.refusal.specs.declared.Verdict.TheVariants.{Passed, Refused}
 use Rattle.refusal.specs.Test.{Test, verdict, in_use}
 use Rattle.sentences.specs.Sentences.{told}
-use Rattle.sentences.specs.KnownLaws.{all_known, each_known, verdict_known, unused_is_passed}
+use Rattle.sentences.specs.KnownLaws.{all_known}
+use Rattle.sentences.proofs.KnownLaws.{each_known, verdict_known, unused_is_passed}
 use Rattle.file.specs.declared.format.Format.{Format}
 use Rattle.survey.specs.Survey.{decoded_as, decoded}
 use Rattle.file.specs.Format.{format48, today}

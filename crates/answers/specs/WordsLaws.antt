@@ -10,8 +10,9 @@ use Rattle.refusal.specs.declared.Verdict.{Verdict}
 use Rattle.refusal.specs.declared.Verdict.TheVariants.{Passed, Refused}
 use Rattle.refusal.specs.TestLaws.{refused_not_passed}
 use Rattle.sentences.specs.Sentences.{told, words}
-use Rattle.sentences.specs.SentencesLaws.{told_words}
-use Rattle.sentences.specs.KnownLaws.{KnownIn, known_words}
+use Rattle.sentences.proofs.SentencesLaws.{told_words}
+use Rattle.sentences.specs.KnownLaws.{KnownIn}
+use Rattle.sentences.proofs.KnownLaws.{known_words}
 use Rattle.file.specs.declared.format.Format.{Format}
 use Rattle.file.specs.Format.{format48, today}
 use Rattle.survey.specs.Survey.{decoded_as, decoded}

@@ -10,7 +10,7 @@ use Rattle.file.specs.declared.section.Records.TheVariants.{Courses, Deadwood, S
 use Rattle.file.specs.Layout.{header_end, seam_header_end, course_end, item_end, seam_end}
 use Rattle.file.specs.Format.{format_of, format48, today}
 use Rattle.file.specs.Limits.{largest_file}
-use Rattle.file.specs.Section.{deadwood, record_at, end_of, placed, record_long}
+use Rattle.file.specs.Section.{record_at, end_of, placed, record_long}
 
 -- a bound on the length of a record
 abbrev pub longest_record : ℕ

@@ -85,6 +85,7 @@ pub fn record_at(x: Section, i: usize) -> usize
 }
 
 // Behind the header and inside the file; an empty section's offset is not looked at.
+#[tactic(auto, using(std::proofs::lemmas::Bool::Decides::nat_tests), unfolding(crate::specs::Section::placed))]
 pub fn is_placed(header: usize, file_size: usize, x: Section) -> bool
     requires { Small x }
     ensures { result ≡ placed header file_size x }
@@ -96,6 +97,7 @@ pub fn is_placed(header: usize, file_size: usize, x: Section) -> bool
 }
 
 // No byte in both.
+#[tactic(auto, using(std::proofs::lemmas::Bool::Decides::nat_tests), unfolding(crate::specs::Section::apart))]
 pub fn are_apart(x: Section, y: Section) -> bool
     requires { Small x × Small y }
     ensures { result ≡ apart x y }

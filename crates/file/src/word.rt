@@ -9,6 +9,7 @@ fn wide(x: u8) -> u32
 }
 
 // The number whose four bytes start at `at`.
+#[tactic(auto, unfolding(crate::specs::Word::word))]
 pub fn word(s: &[u8], at: usize) -> u32
     requires { at + 4 ≤ length s.now }
     ensures { result ≡ word s.now at }
@@ -17,6 +18,7 @@ pub fn word(s: &[u8], at: usize) -> u32
 }
 
 // The same bits, read with a sign.
+#[tactic(auto, unfolding(crate::specs::Word::signed_word))]
 pub fn signed_word(s: &[u8], at: usize) -> i64
     requires { at + 4 ≤ length s.now }
     ensures { result ≡ signed_word s.now at }

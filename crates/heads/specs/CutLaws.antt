@@ -8,7 +8,7 @@ use native.Mathlib.Omega.{arith}
 use Rattle.laws.specs.Sum.{sum}
 use Rattle.laws.specs.SumLaws.{sum_at_most}
 use Rattle.circle.specs.Circle.{chord_square}
-use Rattle.circle.specs.ChordLaws.{rises, falls, widest, square_between, square_at_middle, chord_square_scale}
+use Rattle.circle.proofs.ChordLaws.{rises, falls, widest, square_between, square_at_middle, chord_square_scale}
 use Rattle.slabs.specs.Fraction.{Fraction, whole, ◌⊕◌, ◌⊑◌}
 use Rattle.slabs.specs.Slab.{Cut, Some, smaller_face}
 use Rattle.slabs.specs.FaceLaws.{smaller_le_lower}

@@ -7,7 +7,7 @@ use Rattle.std.proofs.Math.Nat.{le_dest, mul-sub}
 use Rattle.std.proofs.Common.{mul-le-mul_left, mul-zero, zero-mul}
 use native.Mathlib.Omega.{arith}
 use Rattle.circle.specs.Circle.{chord_square}
-use Rattle.circle.specs.ChordLaws.{four_products}
+use Rattle.circle.proofs.ChordLaws.{four_products}
 
 unfoldable pub polynomial : ℕ → ℕ → ℕ
 polynomial m x = x * x * (3 * m - 2 * x)

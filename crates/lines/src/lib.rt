@@ -9,7 +9,7 @@ use text::put::{put_byte, put_bytes, put_digits, put_hundredths, put_minus, size
 
 pub fn rows_line(out: &mut [u8], at: usize, n: u32) -> usize
     ensures put { Put at (rows_line n) out.old out.new result }
-    ensures n_len_bound { length (rows_line n) ≤ line_size }
+    ensures short { length (rows_line n) ≤ line_size }
 {
     let word = put_bytes(out, at, b"rows ");
     let count = put_digits(out, word, n as u64);
@@ -18,7 +18,7 @@ pub fn rows_line(out: &mut [u8], at: usize, n: u32) -> usize
 
 pub fn row_line(out: &mut [u8], at: usize, h: u32, v: u32) -> usize
     ensures put { Put at (row_line h v) out.old out.new result }
-    ensures v_len_bound { length (row_line h v) ≤ row_size }
+    ensures short { length (row_line h v) ≤ row_size }
 {
     let height = put_hundredths(out, at, h as u64);
     let space = put_byte(out, height, b' ');
@@ -28,7 +28,7 @@ pub fn row_line(out: &mut [u8], at: usize, h: u32, v: u32) -> usize
 
 pub fn refused_line(out: &mut [u8], at: usize, number: u32, place: u32) -> usize
     ensures put { Put at (refused_line number place) out.old out.new result }
-    ensures place_len_bound { length (refused_line number place) ≤ line_size }
+    ensures short { length (refused_line number place) ≤ line_size }
 {
     let word = put_bytes(out, at, b"refused ");
     let numbered = put_digits(out, word, number as u64);
@@ -39,7 +39,7 @@ pub fn refused_line(out: &mut [u8], at: usize, number: u32, place: u32) -> usize
 
 pub fn figure_line(out: &mut [u8], at: usize, n: u32) -> usize
     ensures put { Put at (figure_line n) out.old out.new result }
-    ensures n_len_bound { length (figure_line n) ≤ line_size }
+    ensures short { length (figure_line n) ≤ line_size }
 {
     let figure = put_hundredths(out, at, n as u64);
     put_byte(out, figure, b'\n')
@@ -58,7 +58,7 @@ fn put_sign(out: &mut [u8], at: usize, z: i64) -> usize
 // A difference, with its sign.
 pub fn signed_line(out: &mut [u8], at: usize, z: i64) -> usize
     ensures put { Put at (signed_line z) out.old out.new result }
-    ensures z_len_bound { length (signed_line z) ≤ line_size }
+    ensures short { length (signed_line z) ≤ line_size }
 {
     let sign = put_sign(out, at, z);
     let figure = put_hundredths(out, sign, size(z));

@@ -4,7 +4,7 @@ use Rattle.std.proofs.Math.Path.{refl}
 use mathlib.Core.List.{List, [], ◌∷◌, map}
 use native.Mathlib.Omega.{arith}
 use Rattle.measure.specs.Quantity.{diameter_units}
-use Rattle.correction.specs.CorrectionLaws.{corrected_same}
+use Rattle.correction.proofs.CorrectionLaws.{corrected_same}
 use Rattle.tank.specs.declared.tank.Tank.{Tank}
 use Rattle.tank.specs.Part.{Part, volume_of, gross}
 use Rattle.tank.specs.Tank.{parts_of, filled_to, filled_at, gross_at}

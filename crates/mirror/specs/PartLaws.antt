@@ -9,7 +9,7 @@ use Rattle.laws.proofs.NearestLaws.{nearest_of_sum, nearest_of_multiple}
 use Rattle.slabs.specs.Fraction.{◌⊕◌, ◌≃◌}
 use Rattle.slabs.specs.FractionLaws.{sum_over_one}
 use Rattle.circle.specs.Circle.{doubled_area}
-use Rattle.circle.specs.MirrorLaws.{areas_mirrored}
+use Rattle.circle.proofs.MirrorLaws.{areas_mirrored}
 use Rattle.heads.specs.declared.kind.HeadKind.TheVariants.{Flat, HalfEllipsoid, SphericalCap}
 use Rattle.heads.specs.Volume.{heads_volume}
 use Rattle.tank.specs.Part.{Shape, cylinder, head_pair, cylinder_volume, shape_volume}

@@ -13,7 +13,8 @@ use Rattle.refusal.specs.Test.{about, verdict, items}
 use Rattle.refusal.specs.TestLaws.{passed_pick, passed_items, passed_all, items_agree}
 use Rattle.refusal.specs.EachLaws.{each_item, refused_each}
 use Rattle.sentences.specs.Sentences.{of_falling_row, told}
-use Rattle.sentences.specs.KnownLaws.{Known, KnownIn, verdict_known}
+use Rattle.sentences.specs.KnownLaws.{Known, KnownIn}
+use Rattle.sentences.proofs.KnownLaws.{verdict_known}
 use Rattle.survey.specs.declared.decode.Survey.{Survey}
 use Rattle.rows.specs.Rows.{rows_in, height_of, net_row}
 use Rattle.rows.specs.RowLaws.{net_of, cell_in, front_row, row_0_not_below_zero}

@@ -11,8 +11,8 @@ use sentences::put_words_line;
 
 pub fn refused_said(refusal: Refusal, out: &mut [u8], err: &mut [u8]) -> Said
     ensures told { Told line_size (refused_text refusal) (refused_words refusal) out.old out.new err.old err.new result }
-    ensures line_size_value { LINE_SIZE ≡ line_size }
-    ensures err_size_value { ERR_SIZE ≡ words_size }
+    ensures out_room { LINE_SIZE ≡ line_size }
+    ensures err_room { ERR_SIZE ≡ words_size }
 {
     let line = refused_line(out, 0, refusal.number, refusal.place);
     let words = put_words_line(err, 0, refusal.about);

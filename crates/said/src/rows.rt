@@ -16,7 +16,7 @@ use schedule::row_height;
 fn put_rows(out: &mut [u8], at: usize, dh: u32, step: u32, rows: usize, table: &[u32]) -> usize
     requires { Whole dh step rows table.now }
     ensures put { Put at (rows_text dh step table.now rows) out.old out.new result }
-    ensures rows_len_bound { length (rows_text dh step table.now rows) ≤ rows * row_size }
+    ensures short { length (rows_text dh step table.now rows) ≤ rows * row_size }
 {
     let mut next = at;
     let mut i: usize = 0;
@@ -30,7 +30,7 @@ fn put_rows(out: &mut [u8], at: usize, dh: u32, step: u32, rows: usize, table: &
 fn put_table(out: &mut [u8], dh: u32, step: u32, rows: usize, table: &[u32]) -> usize
     requires { Whole dh step rows table.now }
     ensures says { Says out_size (whole_text dh step table.now rows) out.old out.new result }
-    ensures out_size_value { OUT_SIZE ≡ out_size }
+    ensures out_room { OUT_SIZE ≡ out_size }
 {
     let count = rows_line(out, 0, rows as u32);
     put_rows(out, count, dh, step, rows, table)

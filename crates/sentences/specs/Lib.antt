@@ -4,6 +4,5 @@ pub mod Text
 pub mod TextLaws
 pub mod Sentences
 pub mod SizeLaws
-pub mod SentencesLaws
 pub mod KnownLaws
 pub mod ExampleLaws

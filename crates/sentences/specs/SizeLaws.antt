@@ -71,9 +71,9 @@ sentences_light : all_light sentences ≡ true
 unfolding weight weigh sentences
 sentences_light = refl
 
-pub words_size : (x : About) → BlanksFit x → length (words x) < words_size
+pub words_short : (x : About) → BlanksFit x → length (words x) < words_size
 unfolding words
-words_size x fit = omega (arith, filled_weighs x (sentence_of x.sentence) fit, each_light x.sentence sentences sentences_light)
+words_short x fit = omega (arith, filled_weighs x (sentence_of x.sentence) fit, each_light x.sentence sentences sentences_light)
 
 pub words_line_size : (x : About) → length (words x) < words_size → length (words_line x) ≤ words_size
 unfolding words_line

@@ -61,7 +61,7 @@ pub const OF_OLD_HEADER: u32 = 88;
 // What a test is about, in words: for whoever calls the library. Sentence n is line n; a number that no sentence has is an empty line.
 pub fn put_words(out: &mut [u8], at: usize, about: About) -> usize
     ensures put { Put at (words about) out.old out.new result }
-    ensures about_len_bound { length (words about) < words_size }
+    ensures short { length (words about) < words_size }
 {
     let text = b"\
         head kind $: must be 0 (flat), 1 (half-ellipsoid) or 2 (spherical cap)\n\
@@ -121,7 +121,7 @@ pub fn put_words(out: &mut [u8], at: usize, about: About) -> usize
 // .. as a line for standard error.
 pub fn put_words_line(out: &mut [u8], at: usize, about: About) -> usize
     ensures put { Put at (words_line about) out.old out.new result }
-    ensures about_len_bound { length (words_line about) ≤ words_size }
+    ensures short { length (words_line about) ≤ words_size }
 {
     let said = put_words(out, at, about);
     put_byte(out, said, b'\n')

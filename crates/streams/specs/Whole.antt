@@ -1,12 +1,12 @@
 -- How many bytes were moved, and whether that is all. Which bytes a call of the system's moved, no contract can say. Assumes nothing.
-use Rattle.std.specs.Prelude.{ℕ, ◌≤◌, ◌≡◌, true, eqb, ℤ}
-use Rattle.std.specs.Int.Signed.{non_neg}
-use Rattle.io.specs.Counts.{clamp_len}
+use Rattle.std.specs.Prelude.{ℕ, ◌≤◌, ◌≡◌, true, false, eqb, min, Result, Ok, Err, None, Some}
+use Rattle.std.specs.declared.io.Error.{Error}
 use Rattle.streams.specs.declared.Moved.{Moved}
 
--- what a call that was lent n bytes answered: below 0 that it failed, else how many it moved
-abbrev pub told_of : ℤ → ℕ → Moved
-told_of answer n = record { count = clamp_len answer n; whole = non_neg answer }
+-- what a call that was lent n bytes answered: that it failed and why, or how many it moved
+abbrev pub told_of : Result ℕ Error → ℕ → Moved
+told_of (Ok m) n = record { count = min m n; whole = true; failure = None }
+told_of (Err e) n = record { count = 0; whole = false; failure = Some e }
 
 -- of n bytes to write: no more were written than there are, and it is whole exactly where all were
 pub record Written (n : ℕ) (r : Moved) : Type 0 where

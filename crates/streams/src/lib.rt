@@ -3,18 +3,23 @@
 #![tactic(auto)]
 
 mod again;
+mod arguments;
+mod fail;
 mod pause;
 mod read;
 mod told;
 mod write;
 
+pub use arguments::{argument, argument_count};
+use std::io;
 pub use told::{read_input, read_named, write_output};
 pub use write::write_whole;
 
-// What it came to: how many bytes were moved, and whether that is all there was to move. Where it is not, the last call failed, and errno
-// still says why.
+// What it came to: how many bytes were moved, and whether that is all there was to move. Where it is not, the last call failed, and
+// `failure` says why; it says nothing of a write that took nothing.
 #[derive(Clone, Copy)]
 pub struct Moved {
     pub count: usize,
     pub whole: bool,
+    pub failure: Option<io::Error>,
 }

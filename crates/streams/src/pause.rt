@@ -1,15 +1,8 @@
 // Waiting before a call is made again.
-use libc::types::timespec;
+use std::thread;
+use std::time::{Clock, Duration};
 
 // Ten milliseconds, or less if a signal comes.
-pub(crate) fn pause() {
-    let asked = timespec {
-        tv_sec: 0,
-        tv_nsec: 10_000_000,
-    };
-    let mut left = timespec {
-        tv_sec: 0,
-        tv_nsec: 0,
-    };
-    libc::nanosleep(&asked, &mut left);
+pub(crate) fn pause(clock: &impl Clock) {
+    thread::sleep(clock, Duration::from_millis(10));
 }

@@ -1,69 +1,110 @@
-// Standard input, a named file and standard output, whose failures are told on standard error: whose they are, and errno's text.
+// Standard input, a named file and standard output, whose failures are told on standard error: whose they are, and the system's text.
 ghost use Rattle.std.specs.Prelude.{◌≡◌, length};
 ghost use Rattle.io.specs.Counts.{IsPrefixLen};
 ghost use Rattle.streams.specs.Whole.{Written};
 
 use crate::Moved;
+use crate::fail::fail;
 use crate::read::read_whole;
 use crate::write::write_whole;
-use libc::{PATH_MAX, STDIN_FILENO, STDOUT_FILENO};
+use std::env::{Env, FillError};
+use std::fs::File;
+use std::io::Read;
+use std::{io, str};
+
+// The longest name of a file, as the system counts it.
+const PATH_MAX: usize = 4096;
+
+// The system's numbers for a name that is too long, for an argument that is not there, and for bytes that are no text.
+const NAME_TOO_LONG: i32 = 36;
+
+const INVALID_ARGUMENT: i32 = 22;
+
+const NO_TEXT: i32 = 84;
 
 // A read of which nothing came.
-fn nothing(buf: &[u8]) -> Moved
+fn nothing(buf: &[u8], failure: io::Error) -> Moved
     ensures { IsPrefixLen result.count buf.now }
 {
     Moved {
-        count: io::count(0, buf),
+        count: 0,
         whole: false,
+        failure: Some(failure),
+    }
+}
+
+// A failure that was told of, by a name.
+fn fail_told(rt: &HostRuntime, name: &[u8], moved: Moved) {
+    match moved.failure {
+        Some(error) => fail(rt, name, error),
+        None => fail(rt, name, io::Error::from(io::ErrorKind::WriteZero)),
     }
 }
 
 // A read that was told of, where it failed, by a name.
-fn read_told(fd: i32, name: &[u8], buf: &mut [u8]) -> Moved
+fn read_told<R: Read>(rt: &HostRuntime, from: &mut R, name: &[u8], buf: &mut [u8]) -> Moved
     ensures prefix_len { IsPrefixLen result.count buf.new }
     ensures buf_len_unchanged { length buf.new ≡ length buf.old }
 {
-    let got = read_whole(fd, buf);
+    let got = read_whole(rt, from, buf);
     if !got.whole {
-        os::fail(name);
+        fail_told(rt, name, got);
     }
     got
 }
 
 // All of standard input, as far as buf has room for it.
-pub fn read_input(buf: &mut [u8]) -> Moved
+pub fn read_input(rt: &HostRuntime, buf: &mut [u8]) -> Moved
     ensures prefix_len { IsPrefixLen result.count buf.new }
     ensures buf_len_unchanged { length buf.new ≡ length buf.old }
 {
-    read_told(STDIN_FILENO, b"standard input", buf)
+    read_told(rt, &mut rt.stdin(), b"standard input", buf)
+}
+
+// The file of a name. A name that is no text in UTF-8 can't be opened.
+fn opened(rt: &HostRuntime, name: &[u8]) -> io::Result<File> {
+    match str::from_utf8(name) {
+        Ok(path) => File::open(rt, path),
+        Err(_) => Err(io::Error::from_raw_os_error(NO_TEXT)),
+    }
+}
+
+// All of the file of a name, as far as buf has room for it.
+fn read_file(rt: &HostRuntime, name: &[u8], buf: &mut [u8]) -> Moved
+    ensures prefix_len { IsPrefixLen result.count buf.new }
+    ensures buf_len_unchanged { length buf.new ≡ length buf.old }
+{
+    match opened(rt, name) {
+        Ok(mut file) => read_told(rt, &mut file, name, buf),
+        Err(error) => {
+            fail(rt, name, error);
+            nothing(buf, error)
+        }
+    }
 }
 
 // All of the file that argument i of the program names, as far as buf has room for it.
-pub fn read_named(i: usize, buf: &mut [u8]) -> Moved
+pub fn read_named(rt: &HostRuntime, i: usize, buf: &mut [u8]) -> Moved
     ensures prefix_len { IsPrefixLen result.count buf.new }
     ensures buf_len_unchanged { length buf.new ≡ length buf.old }
 {
     let mut name = [0u8; PATH_MAX];
-    let n = os::arg(i, &mut name);
-    if os::errno() != 0 {
-        os::fail(b"-f FILE");
-        return nothing(buf);
-    }
-    let fd = os::open_read(&name[..n]);
-    if fd < 0 {
-        os::fail(&name[..n]);
-        return nothing(buf);
-    }
-    read_told(fd, &name[..n], buf)
+    let error = match rt.arg(i, &mut name) {
+        Ok(n) => return read_file(rt, &name[..n], buf),
+        Err(FillError::TooLong) => io::Error::from_raw_os_error(NAME_TOO_LONG),
+        Err(FillError::NotPresent) => io::Error::from_raw_os_error(INVALID_ARGUMENT),
+    };
+    fail(rt, b"-f FILE", error);
+    nothing(buf, error)
 }
 
 // All of a text to standard output.
-pub fn write_output(bytes: &[u8]) -> Moved
+pub fn write_output(rt: &HostRuntime, bytes: &[u8]) -> Moved
     ensures { Written (length bytes.now) result }
 {
-    let put = write_whole(STDOUT_FILENO, bytes);
+    let put = write_whole(rt, &mut rt.stdout(), bytes);
     if !put.whole {
-        os::fail(b"standard output");
+        fail_told(rt, b"standard output", put);
     }
     put
 }

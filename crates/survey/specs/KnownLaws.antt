@@ -9,7 +9,8 @@ use Rattle.refusal.specs.TestLaws.{verdict_append}
 use Rattle.refusal.specs.FailedLaws.{FirstFailed, first_failed}
 use Rattle.refusal.specs.EachLaws.{Each, each_append, each_item}
 use Rattle.sentences.specs.Sentences.{told}
-use Rattle.sentences.specs.KnownLaws.{Known, KnownIn, each_known, verdict_known}
+use Rattle.sentences.specs.KnownLaws.{Known, KnownIn}
+use Rattle.sentences.proofs.KnownLaws.{each_known, verdict_known}
 use Rattle.file.specs.declared.format.Format.{Format}
 use Rattle.file.specs.declared.section.Section.{Section}
 use Rattle.file.specs.declared.section.Records.{Records}

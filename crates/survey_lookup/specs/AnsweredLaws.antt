@@ -30,9 +30,9 @@ use Rattle.lookup.specs.Table.{row, last_row, keeps_up, never_falls, sound_table
 use Rattle.lookup.specs.Litres.{litres}
 use Rattle.lookup.specs.Height.{height_for}
 use Rattle.lookup.specs.Answer.{too_much, litres_answer, height_answer}
-use Rattle.lookup.specs.AnswerLaws.{read_off, reached_answer, refused_too_much, read_off_only, reached_only}
+use Rattle.lookup.proofs.AnswerLaws.{read_off, reached_answer, refused_too_much, read_off_only, reached_only}
 use Rattle.lookup.specs.Delivered.{delivered_answer}
-use Rattle.lookup.specs.DeliveredLaws.{delivered_inside, read_off_both, read_off_both_only}
+use Rattle.lookup.proofs.DeliveredLaws.{delivered_inside, read_off_both, read_off_both_only}
 use Rattle.survey_lookup.specs.declared.Tabled.{Tabled}
 use Rattle.survey_lookup.specs.TabledLaws.{answer_in_file}
 use Rattle.survey_lookup.specs.Answer.{answer_by, answer_in, answer_from, AsFromFile, litres_in, litres_from, ReadOffOwn}

@@ -1,6 +1,7 @@
 -- Every refusal of a file and of its rows has a number in use, so that none is 0 and none is 10, which is retired; and a sentence. Assumes nothing.
 use Rattle.std.specs.Prelude.{ℕ, List}
-use Rattle.sentences.specs.KnownLaws.{KnownIn, first_known}
+use Rattle.sentences.specs.KnownLaws.{KnownIn}
+use Rattle.sentences.proofs.KnownLaws.{first_known}
 use Rattle.file.specs.declared.format.Format.{Format}
 use Rattle.survey.specs.Survey.{decoded_as}
 use Rattle.survey.specs.KnownLaws.{decoded_known}

@@ -7,7 +7,7 @@ use Rattle.std.proofs.Math.Nat.{mul-lt-mul_of_pos_left, mul_assoc}
 use Rattle.laws.specs.Sum.{sum}
 use Rattle.laws.specs.SumLaws.{sum_at_least, sum_at_most}
 use Rattle.circle.specs.Circle.{chord_square, chord}
-use Rattle.circle.specs.ChordLaws.{rises, falls, chord_next_square, chord_lt, chord_mono, chord_finer, chord_widest, chord_square_scale}
+use Rattle.circle.proofs.ChordLaws.{rises, falls, chord_next_square, chord_lt, chord_mono, chord_finer, chord_widest, chord_square_scale}
 
 unfoldable pub cell : (d n y : ℕ) → ℕ
 cell d n y = sum n (λ j. chord (n * d) (y * n + j))

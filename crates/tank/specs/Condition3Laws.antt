@@ -6,7 +6,8 @@ use Rattle.measure.specs.Diameter.{largest}
 use Rattle.measure.specs.Quantity.{diameter_units, cubic_per_v}
 use Rattle.slabs.specs.Slab.{Cut, Some}
 use Rattle.slabs.specs.WithinLaws.{Within, within_add, within_more}
-use Rattle.heads.specs.SlabsLaws.{heads_slack, heads_within, heads_slack_law}
+use Rattle.heads.specs.SlabsLaws.{heads_slack}
+use Rattle.heads.proofs.SlabsLaws.{heads_within, heads_slack_law}
 use Rattle.tank.specs.declared.tank.Tank.{Tank}
 use Rattle.tank.specs.Part.{Shape, cylinder, head_pair, Filled, shape_volume, volume_of, gross}
 use Rattle.tank.specs.Tank.{parts_of, filled_at, gross_at}

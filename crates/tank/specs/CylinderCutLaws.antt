@@ -5,7 +5,7 @@ use Rattle.std.proofs.Math.Nat.{mul-le-mul_left, mul_assoc}
 use Rattle.std.proofs.Common.{mul_comm}
 use native.Mathlib.Omega.{arith}
 use Rattle.circle.specs.Circle.{chord, chord_up}
-use Rattle.circle.specs.ChordLaws.{rises, falls, chord_mono, chord_widest, chord_between, chord_at_middle, chord_finer, chord_up_near}
+use Rattle.circle.proofs.ChordLaws.{rises, falls, chord_mono, chord_widest, chord_between, chord_at_middle, chord_finer, chord_up_near}
 use Rattle.slabs.specs.Fraction.{◌⊕◌, ◌⊑◌}
 use Rattle.slabs.specs.CutLaws.{Measures}
 use Rattle.slabs.proofs.CutLaws.{faces_fit_under, faces_close, faces_refine}

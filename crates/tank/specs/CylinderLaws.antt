@@ -5,7 +5,7 @@ use Rattle.laws.proofs.NearestLaws.{nearest_at_most}
 use Rattle.measure.specs.Diameter.{largest}
 use Rattle.measure.specs.Quantity.{cubic_per_v}
 use Rattle.circle.specs.Circle.{doubled_area}
-use Rattle.circle.specs.AreaLaws.{area_at_most}
+use Rattle.circle.proofs.AreaLaws.{area_at_most}
 use Rattle.tank.specs.Limits.{longest_shell}
 use Rattle.tank.specs.Part.{cylinder_volume}
 

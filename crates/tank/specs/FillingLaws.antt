@@ -3,7 +3,7 @@
 use Rattle.std.specs.Prelude.{ℕ, ◌≤◌, ◌≡◌, refl}
 use Rattle.std.proofs.Common.{sym, ◌∙◌, ap, arith}
 use Rattle.measure.specs.Quantity.{diameter_units}
-use Rattle.correction.specs.CorrectionLaws.{corrected_mono}
+use Rattle.correction.proofs.CorrectionLaws.{corrected_mono}
 use Rattle.circle.specs.declared.walk.Walk.{Walk}
 use Rattle.circle.specs.Walk.{walk_at}
 use Rattle.heads.specs.Walk.{heads_walk_at}

@@ -4,7 +4,8 @@ use Rattle.std.specs.Prelude.{ℕ, ◌+◌, ◌≤◌, ◌<◌, List, [], ◌∷
 use Rattle.std.proofs.Common.{le_refl, add-le-add}
 use Rattle.measure.specs.Diameter.{largest}
 use Rattle.heads.specs.LengthLaws.{HeadLimits}
-use Rattle.heads.specs.VolumeLaws.{most_heads, heads_at_most}
+use Rattle.heads.specs.VolumeLaws.{most_heads}
+use Rattle.heads.proofs.VolumeLaws.{heads_at_most}
 use Rattle.tank.specs.Limits.{longest_shell}
 use Rattle.tank.specs.Part.{Shape, cylinder, head_pair, Filled, shape_volume, volume_of, gross}
 use Rattle.tank.specs.CylinderLaws.{most_cylinder, cylinder_at_most}

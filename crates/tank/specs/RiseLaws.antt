@@ -4,9 +4,9 @@ use Rattle.std.specs.Prelude.{ℕ, ◌*◌, ◌≤◌, ◌<◌, List, [], ◌∷
 use Rattle.std.proofs.Common.{le_refl, add-le-add, mul-le-mul_right, arith}
 use Rattle.laws.proofs.NearestLaws.{nearest_mono}
 use Rattle.measure.specs.Quantity.{diameter_units, cubic_per_v}
-use Rattle.correction.specs.CorrectionLaws.{corrected_mono}
-use Rattle.circle.specs.AreaLaws.{area_mono}
-use Rattle.heads.specs.VolumeLaws.{heads_mono}
+use Rattle.correction.proofs.CorrectionLaws.{corrected_mono}
+use Rattle.circle.proofs.AreaLaws.{area_mono}
+use Rattle.heads.proofs.VolumeLaws.{heads_mono}
 use Rattle.tank.specs.declared.tank.Tank.{Tank}
 use Rattle.tank.specs.Part.{Shape, cylinder, head_pair, Part, cylinder_volume, shape_volume, volume_of, gross}
 use Rattle.tank.specs.Tank.{parts_of, filled_to, filled_at, gross_at}

@@ -4,7 +4,7 @@ use Rattle.std.proofs.Common.{arith}
 use Rattle.measure.specs.Diameter.{smallest, largest}
 use Rattle.measure.specs.Quantity.{diameter_units}
 use Rattle.correction.specs.Correction.{corrected_height}
-use Rattle.correction.specs.CorrectionLaws.{corrected_at_most}
+use Rattle.correction.proofs.CorrectionLaws.{corrected_at_most}
 use Rattle.heads.specs.LengthLaws.{HeadLimits}
 use Rattle.heads.specs.Volume.{heads_volume}
 use Rattle.heads.specs.VolumeLaws.{most_heads}

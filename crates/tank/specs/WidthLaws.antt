@@ -4,7 +4,7 @@ use Rattle.std.specs.Prelude.{ℕ, ◌+◌, ◌*◌, ◌≤◌, ◌<◌}
 use Rattle.std.proofs.Common.{le_trans, arith}
 use Rattle.std.proofs.Math.Nat.{le-max_left, le-max_right}
 use Rattle.circle.specs.Circle.{chord, chord_up}
-use Rattle.circle.specs.ChordLaws.{rises, falls, chord_between, chord_widest, chord_le_chord_up}
+use Rattle.circle.proofs.ChordLaws.{rises, falls, chord_between, chord_widest, chord_le_chord_up}
 use Rattle.slabs.specs.Slab.{smaller_face, larger_face}
 use Rattle.slabs.specs.FaceLaws.{larger_face_law}
 

@@ -4,10 +4,9 @@ use Rattle.text.specs.PutLaws.{put_both}
 use Rattle.lines.specs.SizeLaws.{figure_line_size}
 use Rattle.lines.proofs.figure_line.Goals as goal
 
-pub returns : goal.returns
+pub returns-clause-put : goal.returns-clause-put
 unfolding figure_line
-returns c =
-    let end = c in
-    let figure = end in
-    let start = figure in
-    (put_both figure.put_hundredths-figure.ensures end.put_byte.ensures, figure_line_size start.args.n start.ranges.n.fits)
+returns-clause-put c = put_both c.put_hundredths-figure.ensures c.put_byte.ensures
+
+pub returns-clause-short : goal.returns-clause-short
+returns-clause-short c = figure_line_size c.args.n c.ranges.n.fits

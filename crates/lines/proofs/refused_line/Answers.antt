@@ -4,15 +4,9 @@ use Rattle.text.specs.PutLaws.{put_both}
 use Rattle.lines.specs.SizeLaws.{refused_line_size}
 use Rattle.lines.proofs.refused_line.Goals as goal
 
-pub returns : goal.returns
+pub returns-clause-put : goal.returns-clause-put
 unfolding refused_line
-returns c =
-    let end = c in
-    let placed = end in
-    let space = placed in
-    let numbered = space in
-    let word = numbered in
-    let start = word in (
-      put_both (put_both (put_both (put_both word.put_bytes-word.ensures numbered.put_digits-numbered.ensures) space.put_byte-space.ensures) placed.put_digits-placed.ensures) end.put_byte.ensures,
-      refused_line_size start.args.number start.args.place start.ranges.number.fits start.ranges.place.fits,
-    )
+returns-clause-put c = put_both (put_both (put_both (put_both c.put_bytes-word.ensures c.put_digits-numbered.ensures) c.put_byte-space.ensures) c.put_digits-placed.ensures) c.put_byte.ensures
+
+pub returns-clause-short : goal.returns-clause-short
+returns-clause-short c = refused_line_size c.args.number c.args.place c.ranges.number.fits c.ranges.place.fits

@@ -4,14 +4,9 @@ use Rattle.text.specs.PutLaws.{put_both}
 use Rattle.lines.specs.SizeLaws.{row_line_size}
 use Rattle.lines.proofs.row_line.Goals as goal
 
-pub returns : goal.returns
+pub returns-clause-put : goal.returns-clause-put
 unfolding row_line
-returns c =
-    let end = c in
-    let volume = end in
-    let space = volume in
-    let height = space in
-    let start = height in (
-      put_both (put_both (put_both height.put_hundredths-height.ensures space.put_byte-space.ensures) volume.put_hundredths-volume.ensures) end.put_byte.ensures,
-      row_line_size start.args.h start.args.v start.ranges.h.fits start.ranges.v.fits,
-    )
+returns-clause-put c = put_both (put_both (put_both c.put_hundredths-height.ensures c.put_byte-space.ensures) c.put_hundredths-volume.ensures) c.put_byte.ensures
+
+pub returns-clause-short : goal.returns-clause-short
+returns-clause-short c = row_line_size c.args.h c.args.v c.ranges.h.fits c.ranges.v.fits

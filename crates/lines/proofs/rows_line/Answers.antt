@@ -4,11 +4,9 @@ use Rattle.text.specs.PutLaws.{put_both}
 use Rattle.lines.specs.SizeLaws.{rows_line_size}
 use Rattle.lines.proofs.rows_line.Goals as goal
 
-pub returns : goal.returns
+pub returns-clause-put : goal.returns-clause-put
 unfolding rows_line
-returns c =
-    let end = c in
-    let count = end in
-    let word = count in
-    let start = word in
-    (put_both (put_both word.put_bytes-word.ensures count.put_digits-count.ensures) end.put_byte.ensures, rows_line_size start.args.n start.ranges.n.fits)
+returns-clause-put c = put_both (put_both c.put_bytes-word.ensures c.put_digits-count.ensures) c.put_byte.ensures
+
+pub returns-clause-short : goal.returns-clause-short
+returns-clause-short c = rows_line_size c.args.n c.ranges.n.fits

@@ -4,8 +4,9 @@ use Rattle.sentences.specs.Sentences.{words_line}
 use Rattle.sentences.specs.SizeLaws.{words_line_size}
 use Rattle.sentences.proofs.put_words_line.Goals as goal
 
-pub returns : goal.returns
+pub returns-clause-put : goal.returns-clause-put
 unfolding words_line
-returns c =
-    let said = c in
-    (put_both said.put_words-said.ensures.0 c.put_byte.ensures, words_line_size said.args.about said.put_words-said.ensures.1)
+returns-clause-put c = put_both c.put_words-said.ensures.put c.put_byte.ensures
+
+pub returns-clause-short : goal.returns-clause-short
+returns-clause-short c = words_line_size c.args.about c.put_words-said.ensures.short

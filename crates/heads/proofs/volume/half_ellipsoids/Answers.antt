@@ -8,7 +8,8 @@ use Rattle.measure.specs.Pi.{pi_over, pi_under}
 use Rattle.heads.specs.declared.kind.HeadKind.TheVariants.{HalfEllipsoid}
 use Rattle.heads.specs.Length.{longest}
 use Rattle.heads.specs.Volume.{heads_volume}
-use Rattle.heads.specs.VolumeLaws.{most_heads, half_ellipsoids_at_most}
+use Rattle.heads.specs.VolumeLaws.{most_heads}
+use Rattle.heads.proofs.VolumeLaws.{half_ellipsoids_at_most}
 use Rattle.heads.proofs.volume.half_ellipsoids.Goals as goal
 
 square_fits : (d h : ℕ) → h ≤ d → d ≤ largest → h * h ≤ largest * d

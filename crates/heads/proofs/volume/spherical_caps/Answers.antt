@@ -2,7 +2,7 @@
 use Rattle.std.proofs.Common.{arith, ◌∙◌, ap}
 use Rattle.measure.specs.Quantity.{volume}
 use Rattle.heads.specs.declared.kind.HeadKind.TheVariants.{SphericalCap}
-use Rattle.heads.specs.VolumeLaws.{heads_at_most}
+use Rattle.heads.proofs.VolumeLaws.{heads_at_most}
 use Rattle.heads.specs.WalkLaws.{dome_limits}
 use Rattle.heads.specs.LengthLaws.{cap_limits}
 use Rattle.heads.proofs.volume.spherical_caps.Goals as goal

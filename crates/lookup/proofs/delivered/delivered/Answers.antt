@@ -2,7 +2,7 @@
 -- the answer tells the rest. Assumes nothing.
 use Rattle.std.proofs.Common.{◌∙◌, ap₂}
 use Rattle.lookup.specs.Delivered.{delivered_by, delivered_answer}
-use Rattle.lookup.specs.DeliveredLaws.{delivered_told}
+use Rattle.lookup.proofs.DeliveredLaws.{delivered_told}
 use Rattle.lookup.proofs.delivered.delivered.Goals as goal
 
 pub returns : goal.returns

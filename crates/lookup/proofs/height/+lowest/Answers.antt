@@ -1,7 +1,7 @@
 -- `lookup::height::lowest` meets its contract: each look keeps the half in which the lowest height is. The measure is the length of
 -- the interval. Assumes nothing.
 use Rattle.std.proofs.Common.{arith, sym, ◌+◌, ◌-◌, ◌/◌}
-use Rattle.lookup.specs.HeightLaws.{lowest_is, among_one, among_upper, among_lower}
+use Rattle.lookup.proofs.HeightLaws.{lowest_is, among_one, among_upper, among_lower}
 use Rattle.lookup.proofs.height.+lowest.Goals as goal
 
 pub returns-then-low-high : goal.returns-then-low-high

@@ -8,10 +8,10 @@ use Rattle.lookup.specs.declared.height.HeightAnswer.TheVariants.{Height, Refuse
 use Rattle.lookup.specs.Table.{row, last_row, sound_table}
 use Rattle.lookup.specs.TableLaws.{SoundTable, sound}
 use Rattle.lookup.specs.Litres.{litres}
-use Rattle.lookup.specs.LitresLaws.{litres_at_top}
+use Rattle.lookup.proofs.LitresLaws.{litres_at_top}
 use Rattle.lookup.specs.Height.{height_for}
 use Rattle.lookup.specs.Answer.{too_much, height_answer}
-use Rattle.lookup.specs.AnswerLaws.{height_told}
+use Rattle.lookup.proofs.AnswerLaws.{height_told}
 use Rattle.lookup.proofs.height.height_for.Goals as goal
 
 -- past the first test the table is sound

@@ -3,7 +3,7 @@
 use Rattle.std.proofs.Common.{arith, ℕ, ◌+◌, ◌*◌, ◌-◌, ◌^◌, ◌≤◌, ◌<◌, mul-le-mul, le_of_lt}
 use Rattle.schedule.specs.Rows.{largest_step}
 use Rattle.lookup.specs.Line.{line_value}
-use Rattle.lookup.specs.LineLaws.{line_at_most}
+use Rattle.lookup.proofs.LineLaws.{line_at_most}
 use Rattle.lookup.proofs.line.line_value.Goals as goal
 
 weighed-fits : (a b x gap : ℕ) → a < 2 ^ 32 → b < 2 ^ 32 → x ≤ gap → gap ≤ largest_step → a * (gap - x) + b * x < 2 ^ 63

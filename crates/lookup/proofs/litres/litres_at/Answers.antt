@@ -8,7 +8,7 @@ use Rattle.lookup.specs.Table.{sound_table}
 use Rattle.lookup.specs.TableLaws.{sound}
 use Rattle.lookup.specs.Litres.{litres}
 use Rattle.lookup.specs.Answer.{too_high, litres_answer}
-use Rattle.lookup.specs.AnswerLaws.{litres_told}
+use Rattle.lookup.proofs.AnswerLaws.{litres_told}
 use Rattle.lookup.proofs.litres.litres_at.Goals as goal
 
 -- past the first test the table is sound

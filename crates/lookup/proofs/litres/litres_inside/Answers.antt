@@ -6,7 +6,7 @@ use Rattle.schedule.specs.Rows.{row_height}
 use Rattle.schedule.specs.RowsLaws.{count_pos, inside_count, inside_below, inside_above, gap_at_most}
 use Rattle.lookup.specs.Line.{line_value}
 use Rattle.lookup.specs.Table.{row}
-use Rattle.lookup.specs.LitresLaws.{litres_at_top, litres_inside}
+use Rattle.lookup.proofs.LitresLaws.{litres_at_top, litres_inside}
 use Rattle.lookup.proofs.litres.litres_inside.Goals as goal
 
 -- the rows about a height below DH

@@ -1,18 +1,9 @@
 -- `seams::rise::second_term` meets its contract: within the limits of a seam its products fit. Assumes nothing.
 use Rattle.std.proofs.Common.{arith, rules, le_trans, lt_of_le_of_lt, mul-le-mul, div-le_self}
 use Rattle.laws.specs.Root.{root_of}
-use Rattle.seams.specs.SeamLaws.{numbers_fit, square_fits, cube_fits}
+use Rattle.seams.specs.SeamLaws.{numbers_fit, cube_fits}
 use Rattle.seams.specs.Rise.{second_term}
 use Rattle.seams.proofs.rise.second_term.Goals as goal
-
-pub overflow_mul-n-2 : goal.overflow_mul-n-2
-overflow_mul-n-2 c = omega (arith, numbers_fit _ c.requires.0)
-
-pub overflow_mul-t : goal.overflow_mul-t
-overflow_mul-t c = omega (arith, square_fits _ c.requires.0)
-
-pub overflow_mul-t-2 : goal.overflow_mul-t-2
-overflow_mul-t-2 c = omega (arith, cube_fits _ c.requires.0)
 
 pub overflow_mul-n-3 : goal.overflow_mul-n-3
 overflow_mul-n-3 c =

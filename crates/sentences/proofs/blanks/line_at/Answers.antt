@@ -1,6 +1,5 @@
--- `sentences::blanks::line_at` meets its contract. The loop's invariant: behind the lines that are left stands what stands behind all n. The
--- measure is what is left of the text. Assumes nothing.
-use Rattle.std.proofs.Common.{arith, ◌-◌, refl, sym, ◌∙◌}
+-- `sentences::blanks::line_at` meets its contract: no line is left, a byte is passed, or the text is over. Assumes nothing.
+use Rattle.std.proofs.Common.{arith, sym, ◌∙◌}
 use Rattle.sentences.specs.TextLaws.{behind_none, behind_ended, behind_byte}
 use Rattle.sentences.proofs.blanks.line_at.Goals as goal
 
@@ -16,6 +15,3 @@ pub returns : goal.returns
 returns c =
     let l = c.loop-i in
     sym (behind_ended l.lines c.args.text.now l.i (omega arith)) ∙ l.invariant.1
-
-pub loop-i-init : goal.loop-i-init
-loop-i-init c = (omega arith, refl)

@@ -3,6 +3,4 @@ use Rattle.text.specs.PutLaws.{put_both}
 use Rattle.text.proofs.grouped.put_three_digits.Goals as goal
 
 pub returns : goal.returns
-returns c =
-    let tens = c in
-    put_both (put_both tens.put_digit-hundreds.ensures tens.put_digit-tens.ensures) c.put_digit.ensures
+returns c = put_both (put_both c.put_digit-hundreds.ensures c.put_digit-tens.ensures) c.put_digit.ensures

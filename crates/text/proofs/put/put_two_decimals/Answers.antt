@@ -3,6 +3,4 @@ use Rattle.text.specs.PutLaws.{put_both}
 use Rattle.text.proofs.put.put_two_decimals.Goals as goal
 
 pub returns : goal.returns
-returns c =
-    let tenth = c in
-    put_both (put_both tenth.put_byte-pointed.ensures tenth.put_digit-tenth.ensures) c.put_digit.ensures
+returns c = put_both (put_both c.put_byte-pointed.ensures c.put_digit-tenth.ensures) c.put_digit.ensures

@@ -4,7 +4,7 @@ use Rattle.measure.specs.declared.volume.Volume.{Volume}
 use Rattle.measure.specs.Quantity.{diameter_units, dip_units, volume, volume_units}
 use Rattle.correction.specs.declared.shell_height.ShellHeight.{ShellHeight}
 use Rattle.correction.specs.ShellHeight.{shell_height, shell_units}
-use Rattle.correction.specs.CorrectionLaws.{corrected_at_most}
+use Rattle.correction.proofs.CorrectionLaws.{corrected_at_most}
 use Rattle.circle.specs.Circle.{doubled_area}
 use Rattle.heads.specs.declared.kind.HeadKind.{HeadKind}
 use Rattle.heads.specs.Volume.{heads_volume}

@@ -4,7 +4,7 @@ use Rattle.std.proofs.Common.{◌≡◌, ◌∙◌, ap, ℕ}
 use Rattle.correction.specs.declared.shell_height.ShellHeight.{ShellHeight}
 use Rattle.correction.specs.ShellHeight.{shell_height, shell_units}
 use Rattle.correction.specs.Correction.{corrected_height}
-use Rattle.correction.specs.CorrectionLaws.{corrected_at_most}
+use Rattle.correction.proofs.CorrectionLaws.{corrected_at_most}
 use Rattle.dome_walk.specs.declared.walk.DomeWalk.{DomeWalk}
 use Rattle.heads.specs.declared.kind.HeadKind.{HeadKind}
 use Rattle.heads.specs.Walk.{heads_walk_at}

@@ -1,0 +1,24 @@
+// The program's arguments as bytes, of which argument 0 is its own name.
+ghost use Rattle.io.specs.Counts.{IsPrefixLen};
+
+use std::env::{Env, FillError};
+
+// Copies argument i to the start of buf and gives its length. One that is not there, or has no room, is empty.
+pub fn argument<E: Env>(env: &E, i: usize, buf: &mut [u8]) -> usize
+    ensures { IsPrefixLen result buf.new }
+{
+    match env.arg(i, buf) {
+        Ok(n) => n,
+        Err(_) => 0,
+    }
+}
+
+// How many there are, with the program's own name.
+pub fn argument_count<E: Env>(env: &E) -> usize {
+    for i in 0..usize::MAX {
+        if let Err(FillError::NotPresent) = env.arg(i, &mut []) {
+            return i;
+        }
+    }
+    usize::MAX
+}
