@@ -61,6 +61,7 @@ fn head_length_tested(so_far: Verdict, s: &[u8]) -> Verdict
 }
 
 // All of them, in their order.
+#[tactic(auto, unfolding(crate::specs::Tests::header_tests))]
 pub fn header_tested(s: &[u8]) -> Verdict
     requires { header_end ≤ length s.now }
     ensures { result ≡ verdict (header_tests s.now) }

@@ -18,6 +18,7 @@ use seams::seam::{MOST_SEAMS, THICKEST_SEAM, WIDEST_SEAM};
 use tank::limits::LONGEST_SHELL;
 
 // The verdict so far, and then the numbers of a course.
+#[tactic(auto, unfolding(crate::specs::Tests::course_tests))]
 fn course_tested(so_far: Verdict, s: &[u8], x: Record) -> Verdict
     requires { Whole s.now x course_end }
     ensures { result ≡ first_refusal so_far (verdict (course_tests s.now x)) }
@@ -67,6 +68,7 @@ fn volume_tested(so_far: Verdict, item: Deadwood, x: Record) -> Verdict
 }
 
 // The verdict so far, and then the numbers of a deadwood item.
+#[tactic(auto, unfolding(crate::specs::Tests::item_tests))]
 fn item_tested(so_far: Verdict, s: &[u8], x: Record) -> Verdict
     requires { (header_end ≤ length s.now) × Whole s.now x item_end }
     ensures { result ≡ first_refusal so_far (verdict (item_tests s.now x)) }
@@ -77,6 +79,7 @@ fn item_tested(so_far: Verdict, s: &[u8], x: Record) -> Verdict
 }
 
 // The verdict so far, and then the numbers of a seam item.
+#[tactic(auto, unfolding(crate::specs::Tests::seam_tests))]
 fn seam_tested(so_far: Verdict, s: &[u8], x: Record) -> Verdict
     requires { Whole s.now x seam_end }
     ensures { result ≡ first_refusal so_far (verdict (seam_tests s.now x)) }

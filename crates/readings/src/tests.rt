@@ -34,6 +34,7 @@ fn reading_tested(so_far: Verdict, s: &[u8], x: Record, k: usize, rise: u64) -> 
 }
 
 // The verdict so far, and then both readings of a course.
+#[tactic(auto, unfolding(crate::specs::Tests::reading_tests))]
 fn course_readings_tested(so_far: Verdict, s: &[u8], x: Record, rise: u64) -> Verdict
     requires { Whole s.now x course_end }
     ensures { result ≡ first_refusal so_far (verdict (reading_tests s.now x rise)) }

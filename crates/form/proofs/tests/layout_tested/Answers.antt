@@ -1,12 +1,9 @@
 -- `form::tests::layout_tested` meets its contract: its tests in turn are the tests of the list. Assumes nothing.
-use Rattle.std.proofs.Common.{arith, [], ◌∷◌, ◌++◌, length}
+use Rattle.std.proofs.Common.{[], ◌∷◌, ◌++◌, length}
 use Rattle.refusal.specs.TestLaws.{verdict_append}
 use Rattle.file.specs.Section.{sections}
 use Rattle.form.specs.Tests.{count_tests, place_tests, kind_test, layout_tests}
 use Rattle.form.proofs.tests.layout_tested.Goals as goal
-
-pub kind_tested-requires : goal.kind_tested-requires
-kind_tested-requires c = omega (arith, c.requires.0.header, c.requires.1)
 
 pub returns : goal.returns
 unfolding layout_tests

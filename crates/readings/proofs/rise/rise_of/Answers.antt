@@ -4,9 +4,7 @@ use Rattle.readings.specs.Reading.{rise_of}
 use Rattle.readings.proofs.rise.rise_of.Goals as goal
 
 pub tape_rise-requires : goal.tape_rise-requires
-tape_rise-requires c =
-    let start = c in
-    rw c.word.ensures (c.seam_of.ensures.1, (dh_fits start.args.f start.args.s.now start.requires.1).0)
+tape_rise-requires c = rw c.word.ensures (c.seam_of.ensures.1, (dh_fits c.args.f c.args.s.now c.requires.1).0)
 
 pub returns : goal.returns
 unfolding rise_of

@@ -5,11 +5,7 @@ use Rattle.said.specs.SaidLaws.{refused_told, passed_told}
 use Rattle.said.proofs.file.file_said.Goals as goal
 
 pub returns-in-Refused : goal.returns-in-Refused
-returns-in-Refused c room line short =
-    let said = c in
-    refused_told _ _ said.verdict-1.given.1 line said.refused_said.ensures.0
+returns-in-Refused c room line short = refused_told _ _ c.in-Refused.is line c.refused_said.ensures.told
 
 pub returns-in-Passed : goal.returns-in-Passed
-returns-in-Passed c room line short =
-    let said = c in
-    passed_told _ said.enum_told-1.given.1 (says (rw length-take (omega (arith, short))) said.put_first.ensures)
+returns-in-Passed c room line short = passed_told _ c.in-Passed.is (says (rw length-take (omega (arith, short))) c.put_first.ensures)
