@@ -10,7 +10,8 @@ use Rattle.refusal.specs.TestLaws.{passed_both}
 use Rattle.tank.specs.Tank.{gross_at}
 use Rattle.survey.specs.declared.decode.Survey.{Survey}
 use Rattle.survey.specs.Survey.{decoded}
-use Rattle.survey.specs.SurveyLaws.{SurveyLimits, decoded_fits}
+use Rattle.survey.specs.SurveyLaws.{SurveyLimits}
+use Rattle.survey.proofs.SurveyLaws.{decoded_fits}
 use Rattle.rows.specs.Rows.{rows_in, height_of, gross_row}
 use Rattle.rows.specs.RowLaws.{net_is_gross}
 use Rattle.row_tests.specs.Tests.{table_tests}
