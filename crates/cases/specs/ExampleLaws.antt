@@ -7,13 +7,14 @@ use Rattle.measure.specs.Quantity.{diameter, diameter_units}
 use Rattle.schedule.specs.Rows.{row_count}
 use Rattle.refusal.specs.declared.Verdict.TheVariants.{Passed}
 use Rattle.survey.specs.Survey.{decoded_by, decoded}
-use Rattle.survey.specs.SurveyLaws.{decoded_fits}
-use Rattle.survey.specs.ExampleLaws.{six_rows, six_rows_survey, six_rows_decoded}
+use Rattle.survey.proofs.SurveyLaws.{decoded_fits}
+use Rattle.survey.specs.ExampleLaws.{six_rows, six_rows_survey}
+use Rattle.survey.proofs.ExampleLaws.{six_rows_decoded}
 use Rattle.table.specs.declared.make.Made.{Made}
 use Rattle.table.specs.Answer.{made, table_left}
 use Rattle.table.specs.NoDeadwoodLaws.{no_deadwood_answered}
 use Rattle.mirror.specs.Mirrored.{MirroredSurvey, Around}
-use Rattle.mirror.specs.TableLaws.{table_mirrored}
+use Rattle.mirror.proofs.TableLaws.{table_mirrored}
 
 pub example_accepted : (decoded six_rows).verdict ≡ Passed
 example_accepted = ap (λ file. file.verdict) six_rows_decoded

@@ -10,7 +10,7 @@ use Rattle.refusal.specs.TestLaws.{refused_not_passed, passed_both}
 use Rattle.file.specs.Format.{format48}
 use Rattle.survey.specs.Survey.{decoded_as, decoded}
 use Rattle.rewrite.specs.Rewritten.{rewritten, most_bytes}
-use Rattle.rewrite.specs.RewrittenLaws.{rewritten_fits, rewritten_decoded}
+use Rattle.rewrite.proofs.RewrittenLaws.{rewritten_fits, rewritten_decoded}
 use Rattle.row_tests.specs.Tests.{table_tests}
 use Rattle.table.specs.Answer.{verdict_on, made, table_left}
 use Rattle.convert.specs.Converted.{converted_by, converted, file_in, Keeps}

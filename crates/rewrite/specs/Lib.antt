@@ -3,4 +3,3 @@
 pub mod Rewritten
 pub mod WordLaws
 pub mod SameLaws
-pub mod RewrittenLaws

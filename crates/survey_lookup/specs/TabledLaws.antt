@@ -15,7 +15,8 @@ use Rattle.schedule.specs.RowsLaws.{few_rows}
 use Rattle.survey.specs.declared.decode.Decoded.{Decoded}
 use Rattle.survey.specs.declared.decode.Survey.{Survey}
 use Rattle.survey.specs.Survey.{decoded}
-use Rattle.survey.specs.SurveyLaws.{WithinLimits, decoded_fits}
+use Rattle.survey.specs.SurveyLaws.{WithinLimits}
+use Rattle.survey.proofs.SurveyLaws.{decoded_fits}
 use Rattle.rows.specs.Rows.{rows_in, cell_of, table_of}
 use Rattle.row_tests.specs.Tests.{table_tests}
 use Rattle.table.specs.Answer.{verdict_on, table_left}

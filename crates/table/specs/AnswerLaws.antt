@@ -12,7 +12,8 @@ use Rattle.refusal.specs.PlainLaws.{plain, plain_first}
 use Rattle.survey.specs.declared.decode.Decoded.{Decoded}
 use Rattle.survey.specs.declared.decode.Survey.{Survey}
 use Rattle.survey.specs.Survey.{decoded}
-use Rattle.survey.specs.IgnoredLaws.{Alike, SameSections, other_bytes_ignored}
+use Rattle.survey.specs.IgnoredLaws.{Alike, SameSections}
+use Rattle.survey.proofs.IgnoredLaws.{other_bytes_ignored}
 use Rattle.rows.specs.Rows.{rows_in, cell_of, table_of}
 use Rattle.row_tests.specs.Tests.{table_tests}
 use Rattle.row_tests.specs.Left.{left_by}

@@ -6,7 +6,7 @@ use Rattle.file.specs.Format.{format48}
 use Rattle.file.specs.Section.{courses, deadwood}
 use Rattle.file.specs.SectionLaws.{format48_readable}
 use Rattle.rewrite.specs.Rewritten.{section_bytes, header_of, no_seams, rewritten}
-use Rattle.rewrite.specs.RewrittenLaws.{accepted_placed, rewritten_fits}
+use Rattle.rewrite.proofs.RewrittenLaws.{accepted_placed, rewritten_fits}
 use Rattle.rewrite.proofs.rewritten.put_rewritten.Goals as goal
 
 whole : (s : List ℕ) {x y : Section} → x ≡ courses format48 s → y ≡ deadwood format48 s

@@ -2,7 +2,7 @@
 use Rattle.std.proofs.Common.{◌∙◌, ap}
 use Rattle.file.specs.SectionLaws.{today_readable}
 use Rattle.survey.specs.Survey.{decoded_as, decoded}
-use Rattle.survey.specs.SurveyLaws.{decoded_fits}
+use Rattle.survey.proofs.SurveyLaws.{decoded_fits}
 use Rattle.survey.proofs.decode.decode.Goals as goal
 
 pub decode_as-requires : goal.decode_as-requires

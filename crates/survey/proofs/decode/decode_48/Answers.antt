@@ -3,7 +3,7 @@ use Rattle.std.proofs.Common.{◌∙◌, ap}
 use Rattle.file.specs.Format.{format48}
 use Rattle.file.specs.SectionLaws.{format48_readable}
 use Rattle.survey.specs.Survey.{decoded_as}
-use Rattle.survey.specs.SurveyLaws.{decoded_as_fits}
+use Rattle.survey.proofs.SurveyLaws.{decoded_as_fits}
 use Rattle.survey.proofs.decode.decode_48.Goals as goal
 
 pub decode_as-requires : goal.decode_as-requires

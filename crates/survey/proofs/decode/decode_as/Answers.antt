@@ -5,7 +5,7 @@ use Rattle.refusal.specs.declared.Verdict.TheVariants.{Passed}
 use Rattle.refusal.specs.Test.{verdict}
 use Rattle.dimensions.specs.JudgedLaws.{told_refused, told_found}
 use Rattle.survey.specs.Tests.{file_tests}
-use Rattle.survey.specs.SurveyLaws.{passed_file}
+use Rattle.survey.proofs.SurveyLaws.{passed_file}
 use Rattle.survey.specs.Survey.{survey_with, decoded_by}
 use Rattle.survey.proofs.decode.decode_as.Goals as goal
 

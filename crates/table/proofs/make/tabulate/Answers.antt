@@ -2,7 +2,7 @@
 use Rattle.std.proofs.Common.{sym, ◌∙◌, ap}
 use Rattle.refusal.specs.TestLaws.{passed_both}
 use Rattle.table.specs.Answer.{answer_by, made}
-use Rattle.table.specs.Condition3Laws.{net_rows_left, condition3_left}
+use Rattle.table.proofs.Condition3Laws.{net_rows_left, condition3_left}
 use Rattle.table.proofs.make.tabulate.Goals as goal
 
 pub answer-requires : goal.answer-requires

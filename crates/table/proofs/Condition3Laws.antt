@@ -1,7 +1,7 @@
 -- Every cell that the call writes is the net row, and condition 3 holds of it. Assumes nothing.
-use Rattle.std.specs.Prelude.{ℕ, ◌<◌, ◌≡◌, refl, true, List, ◌++◌, ℤ, pos, negsuc, nat_abs, ◌+ℤ◌, length, drop}
+use Rattle.std.specs.Prelude.{ℕ, ◌<◌, ◌≡◌, refl, true, List, ◌++◌, pos, negsuc, nat_abs, ◌+ℤ◌, length, drop}
 use Rattle.std.proofs.Common.{sym, ◌∙◌, ap, arith}
-use Rattle.std.proofs.Math.IntN.{-ℤ-+ℤ_cancel}
+use Rattle.std.proofs.Math.IntN.{ℤ, -ℤ-+ℤ_cancel}
 use Rattle.std.proofs.Math.ListN.{get_or-append}
 use Rattle.std.specs.Int.Signed.{non_neg}
 use Rattle.laws.specs.BoolLaws.{true_not_false}

@@ -1,15 +1,13 @@
 -- The gross volume of a tank turned over: each part is off by 1 v at most, so a list of parts by as many v as it has parts. Assumes nothing.
-use Rattle.std.specs.Prelude.{ℕ, ◌+◌, ◌<◌, ◌≡◌, true, length}
-use Rattle.std.proofs.Math.Path.{refl}
-use mathlib.Core.List.{List, [], ◌∷◌, map}
-use native.Mathlib.Omega.{arith}
+use Rattle.std.specs.Prelude.{ℕ, ◌+◌, ◌<◌, ◌≡◌, refl, true, List, [], ◌∷◌, map, length}
+use Rattle.std.proofs.Common.{arith}
 use Rattle.measure.specs.Quantity.{diameter_units}
 use Rattle.correction.proofs.CorrectionLaws.{corrected_same}
 use Rattle.tank.specs.declared.tank.Tank.{Tank}
 use Rattle.tank.specs.Part.{Part, volume_of, gross}
 use Rattle.tank.specs.Tank.{parts_of, filled_to, filled_at, gross_at}
 use Rattle.mirror.specs.Mirrored.{shape_mirrors, MirroredTank, mirror_tolerance, Around}
-use Rattle.mirror.specs.PartLaws.{volume_mirrored}
+use Rattle.mirror.proofs.PartLaws.{volume_mirrored}
 
 -- parts of one diameter, each of which mirrors
 data EachMirrors (dh : ℕ) : List Part → Type 0 where

@@ -10,7 +10,8 @@ use Rattle.refusal.specs.TestLaws.{passed_both}
 use Rattle.tank.specs.Tank.{gross_at}
 use Rattle.survey.specs.declared.decode.Survey.{Survey}
 use Rattle.survey.specs.Survey.{decoded}
-use Rattle.survey.specs.SurveyLaws.{SurveyLimits, decoded_fits}
+use Rattle.survey.specs.SurveyLaws.{SurveyLimits}
+use Rattle.survey.proofs.SurveyLaws.{decoded_fits}
 use Rattle.rows.specs.Rows.{rows_in, height_of, gross_row}
 use Rattle.rows.specs.RowLaws.{net_is_gross}
 use Rattle.row_tests.specs.Tests.{table_tests}
@@ -18,9 +19,9 @@ use Rattle.table.specs.declared.make.Made.{Made}
 use Rattle.table.specs.Answer.{made, table_left}
 use Rattle.table.specs.AnswerLaws.{made_table}
 use Rattle.table.specs.Condition3.{NetRowAt, EveryRow}
-use Rattle.table.specs.Condition3Laws.{net_rows_left}
+use Rattle.table.proofs.Condition3Laws.{net_rows_left}
 use Rattle.mirror.specs.Mirrored.{MirroredTank, MirroredSurvey, mirror_tolerance, Around}
-use Rattle.mirror.specs.GrossLaws.{gross_mirrored}
+use Rattle.mirror.proofs.GrossLaws.{gross_mirrored}
 
 -- E7, third law, of a survey that is accepted, with D1 = D2 = DH and heads of kind 0 or 1: at every dip height H from 0 to DH, a row's or not,
 -- gross at H and gross at DH - H together are the full gross within 3 v. What deadwood takes is not in the gross

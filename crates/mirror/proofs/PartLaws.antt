@@ -1,6 +1,5 @@
 -- Parts turned over. Every part's volume is rounded from its exact one. Before that the volumes of a cylinder, or of half-ellipsoid heads, at two mirrored
--- heights are together the full one, exactly, and after it within 1 v. Two cylinders of one diameter laid end to end hold, before rounding, the sum.
--- Assumes nothing.
+-- heights are together the full one, exactly, and after it within 1 v. Assumes nothing.
 use Rattle.std.specs.Prelude.{ℕ, ◌+◌, ◌*◌, ◌-◌, ◌≤◌, ◌<◌, ◌≡◌, refl, true}
 use Rattle.std.proofs.Common.{sym, ◌∙◌, ap, add-mul, arith}
 use Rattle.laws.specs.BoolLaws.{true_not_false}
@@ -13,7 +12,7 @@ use Rattle.circle.proofs.MirrorLaws.{areas_mirrored}
 use Rattle.heads.specs.declared.kind.HeadKind.TheVariants.{Flat, HalfEllipsoid, SphericalCap}
 use Rattle.heads.specs.Volume.{heads_volume}
 use Rattle.tank.specs.Part.{Shape, cylinder, head_pair, cylinder_volume, shape_volume}
-use Rattle.mirror.specs.Exact.{exact_cylinder, exact_heads, exact_volume}
+use Rattle.mirror.specs.Exact.{exact_heads, exact_volume}
 use Rattle.mirror.specs.Mirrored.{shape_mirrors, Around}
 
 -- the volume in use is the nearest v to the exact one
@@ -69,7 +68,3 @@ module _ (d l h r : ℕ) (e : h + r ≡ d) where
 pub half_ellipsoids_mirrored : (d l h : ℕ) → h ≤ d
     → exact_heads HalfEllipsoid d l h ⊕ exact_heads HalfEllipsoid d l (d - h) ≃ exact_heads HalfEllipsoid d l d
 half_ellipsoids_mirrored d l h high = exact_mirrored d l h (d - h) (omega arith) (head_pair HalfEllipsoid) refl
-
--- E7, fourth law: two shells of one diameter laid end to end hold, before rounding, the sum: doubled area · (L + L')
-pub end_to_end : (d l l' h : ℕ) → exact_cylinder d (l + l') h ≃ exact_cylinder d l h ⊕ exact_cylinder d l' h
-end_to_end d l l' h = omega arith

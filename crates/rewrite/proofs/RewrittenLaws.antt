@@ -34,7 +34,7 @@ use Rattle.readings.specs.FitLaws.{NumbersFit, as_they_stand, reading_passes}
 use Rattle.numbers.specs.FitLaws.{header_passed, course_passes, item_passes}
 use Rattle.survey.specs.DimensionLaws.{taken_apart, kind_known_law}
 use Rattle.survey.specs.KnownLaws.{decoded_as_verdict}
-use Rattle.survey.specs.SurveyLaws.{passed_file}
+use Rattle.survey.proofs.SurveyLaws.{passed_file}
 use Rattle.rewrite.specs.Rewritten.{deadwood_from, seams_from, offset_of, courses_words, deadwood_words, seams_words, section_bytes, header_of, no_seams, rewritten, most_bytes}
 use Rattle.rewrite.specs.WordLaws.{word_front, word_behind, word_of_part, word_of_zeros, EachSmall, word_of_words}
 use Rattle.rewrite.specs.SameLaws.{SameRecords, SameNumbers, same_survey, same_header_tests, same_dimension_tests, course_passes_too, reading_passes_too, item_passes_too}
