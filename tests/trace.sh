@@ -23,7 +23,7 @@ edits() { for file in crates/*/must-fail/*.edit crates/*/must-not-compile/*.edit
 functions_missing() { public_functions | while read -r crate name; do grep -qE "^\| \`$crate\` .*\`([A-Za-z]+::)?$name\`" "$1" || echo "$crate::$name"; done; }
 edits_missing() { edits | while read -r crate name; do grep -qE "\`($crate/)?$name\`" "$1" || echo "$crate/$name"; done; }
 # files that a page names and that are not there
-files_missing() { grep -oE '`[a-z_]+/(specs|src)/[A-Za-z_0-9]+\.(antt|rt)`' "$1" | tr -d '`' | sort -u | while read -r file; do [ -f "crates/$file" ] || echo "$file"; done; }
+files_missing() { grep -oE '`[a-z_]+/(specs|src|proofs)/[A-Za-z_0-9]+\.(antt|rt)`' "$1" | tr -d '`' | sort -u | while read -r file; do [ -f "crates/$file" ] || echo "$file"; done; }
 
 page=docs/TRACE.md
 found=$(functions_missing "$page")

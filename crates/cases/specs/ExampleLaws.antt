@@ -14,7 +14,7 @@ use Rattle.table.specs.declared.make.Made.{Made}
 use Rattle.table.specs.Answer.{made, table_left}
 use Rattle.table.specs.NoDeadwoodLaws.{no_deadwood_answered}
 use Rattle.mirror.specs.Mirrored.{MirroredSurvey, Around}
-use Rattle.mirror.specs.TableLaws.{table_mirrored}
+use Rattle.mirror.proofs.TableLaws.{table_mirrored}
 
 pub example_accepted : (decoded six_rows).verdict ≡ Passed
 example_accepted = ap (λ file. file.verdict) six_rows_decoded

@@ -9,8 +9,7 @@ use crate::item::{Deadwood, MOST_ITEMS};
 use arith::signed;
 use measure::dip_height::DipHeight;
 
-// Of a lent list. The borrow checker covers no reference to a list of structs, so the proof is a walk by hand, and the function only
-// goes through the list.
+// Of a lent list.
 pub fn sum_of_shares(items: &[Deadwood], h: DipHeight) -> i64
     requires { DeadwoodLimits items.now }
     ensures { result ≡ shares_of items.now (dip_units h) }
@@ -24,7 +23,7 @@ pub fn sum_of_shares(items: &[Deadwood], h: DipHeight) -> i64
     sum
 }
 
-// Of the first items of an array. It lends them, so its proof too is a walk by hand. With plain parameters, its callers need none.
+// Of the first items of an array. Its parameters are plain, so that its callers lend nothing.
 pub fn sum_of_first(items: [Deadwood; MOST_ITEMS], count: usize, h: DipHeight) -> i64
     requires { (count ≤ most_items) × DeadwoodLimits (take count items) }
     ensures { result ≡ shares_of (take count items) (dip_units h) }

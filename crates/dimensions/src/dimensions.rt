@@ -63,6 +63,7 @@ pub(crate) fn lengths_tested(t: Sums, l1: u32) -> Verdict
 }
 
 // Of circumferences, in pairs, weighted by lengths.
+#[tactic(auto, unfolding(crate::specs::Dimensions::outer_diameter))]
 fn outer_diameter(readings: u64, lengths: u64) -> u64
     requires { (pi_under * readings < 2 ^ 63) × (1 ≤ lengths) × (lengths ≤ most_courses * longest_shell) }
     ensures { result ≡ outer_diameter readings lengths }
@@ -71,6 +72,7 @@ fn outer_diameter(readings: u64, lengths: u64) -> u64
 }
 
 // Twice the mean thickness.
+#[tactic(auto, unfolding(crate::specs::Dimensions::wall))]
 fn wall(t: Sums) -> u64
     requires { SumsSmall t × (1 ≤ t.count) }
     ensures { result ≡ wall t.thicknesses t.count }
@@ -79,6 +81,7 @@ fn wall(t: Sums) -> u64
 }
 
 // D1, from the courses.
+#[tactic(auto, unfolding(crate::specs::Dimensions::shell_diameter))]
 pub(crate) fn shell_diameter(t: Sums) -> u64
     requires { SumsSmall t × (1 ≤ t.lengths) × (1 ≤ t.count) }
     ensures { result ≡ shell_diameter t }
@@ -87,6 +90,7 @@ pub(crate) fn shell_diameter(t: Sums) -> u64
 }
 
 // D2, of flange and head, from the circumferences at the shell's ends.
+#[tactic(auto, unfolding(crate::specs::Dimensions::head_diameter))]
 pub(crate) fn head_diameter(t: Sums, left: u32, right: u32) -> u64
     requires { SumsSmall t × (1 ≤ t.count) }
     ensures { result ≡ head_diameter t left right }
@@ -95,6 +99,7 @@ pub(crate) fn head_diameter(t: Sums, left: u32, right: u32) -> u64
 }
 
 // The diameter of so many u, where it is within its limits and not far from DH.
+#[tactic(auto, unfolding(crate::specs::Dimensions::diameter_fits))]
 fn fitting(d: u64, dh: u32) -> Measured
     ensures { result ≡ pick (diameter_fits d dh) (Measured.Within (diameter d)) Measured.Outside }
 {

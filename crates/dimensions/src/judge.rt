@@ -24,8 +24,8 @@ use refusal::Verdict;
 
 // The diameters of a file with these sums.
 fn diameters_in(s: &[u8], t: Sums) -> Dimensions
-    requires header_end_in_bounds { (header_end ≤ length s.now) × SumsSmall t × (1 ≤ t.lengths) × (1 ≤ t.count) }
-    requires smallest_bound { (smallest ≤ word s.now dh_at) × (word s.now dh_at ≤ largest) × (shell_diameter t < 2 ^ 63) × (head_diameter t (word s.now left_at) (word s.now right_at) < 2 ^ 32) }
+    requires sums_small { (header_end ≤ length s.now) × SumsSmall t × (1 ≤ t.lengths) × (1 ≤ t.count) }
+    requires diameters_small { (smallest ≤ word s.now dh_at) × (word s.now dh_at ≤ largest) × (shell_diameter t < 2 ^ 63) × (head_diameter t (word s.now left_at) (word s.now right_at) < 2 ^ 32) }
     ensures { result ≡ diameters_judged s.now t }
 {
     let d1 = shell_diameter(t);

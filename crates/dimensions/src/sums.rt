@@ -24,6 +24,7 @@ pub struct Sums {
 }
 
 // What the course at a byte adds, its circumferences having lost the tape rise.
+#[tactic(auto, unfolding(crate::specs::Dimensions::sum_of))]
 fn sum_of(s: &[u8], at: usize, rise: u64) -> Sums
     requires { (at + course_end ≤ length s.now) × CourseFits s.now at rise }
     ensures { result ≡ sum_of s.now at rise }

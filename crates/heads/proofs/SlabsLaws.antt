@@ -3,6 +3,7 @@
 use Rattle.std.specs.Prelude.{ℕ, ◌+◌, ◌*◌, ◌-◌, ◌≤◌, ◌<◌, ◌≡◌, refl}
 use Rattle.std.proofs.Math.Nat.{le_dest}
 use Rattle.std.proofs.Common.{mul-le-mul_left, arith}
+use Rattle.laws.specs.Nearest.{nearest}
 use Rattle.laws.proofs.NearestLaws.{nearest_above, nearest_below}
 use Rattle.measure.specs.Diameter.{largest}
 use Rattle.measure.specs.Quantity.{cubic_per_v}

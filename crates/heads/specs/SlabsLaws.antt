@@ -1,5 +1,4 @@
--- The slabs of a pair of heads keep within a slack of its volume, whatever their count. Half-ellipsoids: both of the slabs' values of pi lie
--- below the volume's 355/113, and what a covering slab lacks by that is below half a v at the largest head. Assumes nothing.
+-- The slack within which the slabs of a pair of heads keep of its volume, whatever their count; the laws stand in proofs/. Assumes nothing.
 use Rattle.std.specs.Prelude.{ℕ, ◌+◌, ◌-◌}
 use Rattle.measure.specs.Quantity.{cubic_per_v}
 use Rattle.domes.specs.Dome.{dome_fitting, dome_covering}

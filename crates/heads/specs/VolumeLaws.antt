@@ -1,5 +1,4 @@
--- The volume of heads: it never falls as the height grows, that of full half-ellipsoids is document 000's formula 30, and what no heads within
--- the limits exceed. That of half-ellipsoids goes by its polynomial. Assumes nothing.
+-- What no heads within the limits exceed; the laws of the volume stand in proofs/. Assumes nothing.
 use Rattle.std.specs.Prelude.{ℕ}
 
 -- in v; the largest heads hold less

@@ -15,8 +15,8 @@ use measure::diameter::Diameter;
 
 // On to a height that the walk has not passed.
 pub fn heads_on_to(from: DomeWalk, kind: HeadKind, d: Diameter, l: u32, h: ShellHeight) -> DomeWalk
-    requires h_bound { (shell_units h ≤ diameter_units d) × (diameter_units d ≤ largest) × HeadLimits kind (diameter_units d) l }
-    requires heads_not_past { HeadsNotPast kind (diameter_units d) l (shell_units h) from }
+    requires limits { (shell_units h ≤ diameter_units d) × (diameter_units d ≤ largest) × HeadLimits kind (diameter_units d) l }
+    requires not_past { HeadsNotPast kind (diameter_units d) l (shell_units h) from }
     ensures { result ≡ heads_walk_at kind (diameter_units d) l (shell_units h) }
 {
     match kind {

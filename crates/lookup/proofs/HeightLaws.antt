@@ -9,7 +9,7 @@ use Rattle.lookup.specs.TableLaws.{SoundTable}
 use Rattle.lookup.specs.Litres.{litres}
 use Rattle.lookup.proofs.LitresLaws.{litres_mono}
 use Rattle.lookup.specs.Height.{height_for, Lowest}
-use Rattle.lookup.specs.HeightLaws.{Among, Among}
+use Rattle.lookup.specs.HeightLaws.{Among}
 
 module _ {dh step : ℕ} {table : List ℕ} {w : ℕ} where
   pub lowest_is : {h : ℕ} → Lowest dh step table w h → height_for dh step table w ≡ h

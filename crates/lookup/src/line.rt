@@ -17,8 +17,8 @@ fn line_value(a: u32, b: u32, x: u32, gap: u32) -> u32
 
 // x above row i of a table, on the line to row i + 1.
 pub fn on_line(table: &[u32], i: usize, x: u32, gap: u32) -> u32
-    requires i_in_bounds { (i + 1 < length table.now) × (row table.now i ≤ row table.now (i + 1)) }
-    requires x_le_gap { (x ≤ gap) × (0 < gap) × (gap ≤ largest_step) }
+    requires neighbours_rise { (i + 1 < length table.now) × (row table.now i ≤ row table.now (i + 1)) }
+    requires between_them { (x ≤ gap) × (0 < gap) × (gap ≤ largest_step) }
     ensures { result ≡ line_value (row table.now i) (row table.now (i + 1)) x gap }
 {
     line_value(table[i], table[i + 1], x, gap)

@@ -1,2 +1,2 @@
-// No code: what is proved of a table turned over, in specs/.
+// No code: what is proved of a table turned over, in specs/ and proofs/.
 #![tactic(auto)]

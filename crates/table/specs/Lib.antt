@@ -5,5 +5,4 @@ pub mod AnswerLaws
 pub mod RetiredLaws
 pub mod KnownLaws
 pub mod NoDeadwoodLaws
-pub mod Condition3Laws
 pub mod PromiseLaws

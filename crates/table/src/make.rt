@@ -72,8 +72,8 @@ pub fn tabulate(file: Decoded, table: &mut [u32]) -> Made
     requires { WithinLimits file }
     ensures value { result ≡ made file (length table.old) }
     ensures table_after { table.new ≡ table_left file table.old }
-    ensures every_row { EveryRow NetRowAt file.survey result table.new }
-    ensures every_row_2 { EveryRow Condition3At file.survey result table.new }
+    ensures net_rows { EveryRow NetRowAt file.survey result table.new }
+    ensures condition3 { EveryRow Condition3At file.survey result table.new }
 {
     let v = file.survey;
     answer(v, filled(file, table))
@@ -83,8 +83,8 @@ pub fn tabulate(file: Decoded, table: &mut [u32]) -> Made
 pub fn make_table(survey: &[u8], table: &mut [u32]) -> Made
     ensures value { result ≡ made (decoded survey.now) (length table.old) }
     ensures table_after { table.new ≡ table_left (decoded survey.now) table.old }
-    ensures every_row { EveryRow NetRowAt (decoded survey.now).survey result table.new }
-    ensures every_row_2 { EveryRow Condition3At (decoded survey.now).survey result table.new }
+    ensures net_rows { EveryRow NetRowAt (decoded survey.now).survey result table.new }
+    ensures condition3 { EveryRow Condition3At (decoded survey.now).survey result table.new }
 {
     tabulate(decode(survey), table)
 }

@@ -43,6 +43,7 @@ pub(crate) fn put_digit(out: &mut [u8], at: usize, n: u64) -> usize
     put_byte(out, at, b'0' + (n % 10) as u8)
 }
 
+#[tactic(auto, using(crate::specs::DigitsLaws::digits_one))]
 pub fn put_digits(out: &mut [u8], at: usize, n: u64) -> usize
     ensures { Put at (digits n) out.old out.new result }
 {

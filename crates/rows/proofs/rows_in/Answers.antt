@@ -7,7 +7,6 @@ use Rattle.rows.proofs.rows_in.Goals as goal
 
 pub returns : goal.returns
 returns c =
-    let start = c in
-    let v = start.args.survey in
-    let counted = c.row_count.ensures.0 ∙ ap (λ (d : ℕ). row_count d v.step) c.units.ensures in
-    (counted, rw counted (few_rows (diameter_units v.tank-1.dh-1) v.step start.requires.tank-1.dh_high start.requires.step_low))
+    let v = c.args.survey in
+    let counted = c.row_count.ensures.value ∙ ap (λ (d : ℕ). row_count d v.step) c.units.ensures in
+    (counted, rw counted (few_rows (diameter_units v.tank.dh) v.step c.requires.tank.dh_high c.requires.step_low))

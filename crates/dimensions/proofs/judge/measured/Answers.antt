@@ -36,39 +36,30 @@ behind : (f : Format) (s : List ℕ) {v : Verdict} → v ≡ verdict (lengths_te
 unfolding dimension_tests
 behind f s e = ap (judged_by f s) (ap (λ v. first_refusal v (verdict (rest f s))) e ∙ sym (verdict_append (lengths_test (sums_of f s) (word s l1_at) ∷ []) (rest f s)))
 
--- refusal 6, by the sums that the code made
-lengths : (c : tie.After-lengths-tested)
-    → let a = c.args in
-    c.lengths_tested-lengths.result ≡ verdict (lengths_test (sums_of a.f a.s.now) (word a.s.now l1_at) ∷ [])
-lengths c = rw (c.file_sums-t.ensures.0, c.word.ensures) at c.lengths_tested-lengths.ensures
-
 pub lengths_tested-lengths-requires : goal.lengths_tested-lengths-requires
 lengths_tested-lengths-requires c =
-    let start = c in
-    let sums = c.file_sums-t.ensures in
-    let shell = shell_fits start.args.f start.args.s.now (as_they_stand _ _ start.requires.1) in
-    rw c.word.ensures (sums.1.0, omega (arith, shell, sums.1.0.count), omega (arith, shell, sums.1.0.count))
+    let sums = c.file_sums-t.ensures.sums_small in
+    let shell = shell_fits c.args.f c.args.s.now (as_they_stand _ _ c.requires.1) in
+    rw c.word.ensures (sums.0, omega (arith, shell, sums.0.count), omega (arith, shell, sums.0.count))
 
 pub returns-in-Refused : goal.returns-in-Refused
 returns-in-Refused c =
     let a = c.args in
-    rw c.lengths-1.given.1 at (behind a.f a.s.now (lengths c))
+    let lengths = rw (c.file_sums-t.ensures.value, c.word.ensures) at c.in-Refused.ensures in
+    behind a.f a.s.now lengths
 
-pub diameters_in-requires : goal.diameters_in-requires
-diameters_in-requires c =
-    let start = c in
-    let f = start.args.f in
-    let s = start.args.s.now in
-    let fit = as_they_stand f s start.requires.1 in
-    let sums = c.file_sums-t.ensures in
-    let dh = dh_fits f s fit in
-    let small = diameters_small f s start.requires.1 in
-    ((fit.placed.courses_inside.header, sums.1.0, sums.1.1, sums.1.2), rw sums.0 (dh.0, dh.1, small.0, small.1))
+pub diameters_in-requires-clause-diameters_small : goal.diameters_in-requires-clause-diameters_small
+diameters_in-requires-clause-diameters_small c =
+    let f = c.args.f in
+    let s = c.args.s.now in
+    let dh = dh_fits f s (as_they_stand f s c.requires.1) in
+    let small = diameters_small f s c.requires.1 in
+    rw c.file_sums-t.ensures.value (dh.0, dh.1, small.0, small.1)
 
 pub returns : goal.returns
 returns c =
-    let start = c in
-    let f = start.args.f in
-    let s = start.args.s.now in
-    let found = rw c.file_sums-t.ensures.0 at c.diameters_in.ensures in
-    (rw found at c.heads_in.ensures) ∙ by-fit f s ∙ rw c.enum_told-1.given.1 at (behind f s (lengths c))
+    let f = c.args.f in
+    let s = c.args.s.now in
+    let lengths = rw (c.file_sums-t.ensures.value, c.word.ensures) at c.in_default.ensures in
+    let found = rw c.file_sums-t.ensures.value at c.diameters_in.ensures in
+    (rw found at c.heads_in.ensures) ∙ by-fit f s ∙ behind f s lengths

@@ -8,5 +8,8 @@ use Rattle.lookup.proofs.delivered.delivered.Goals as goal
 pub returns : goal.returns
 unfolding delivered_answer
 returns c =
+    let told =
     delivered_told _ _ _ _ _
-    (c.second_less_first.ensures ∙ ap₂ delivered_by c.litres_at.ensures.0 c.litres_at-2.ensures.0)
+    (c.second_less_first.ensures ∙ ap₂ delivered_by c.litres_at.ensures.value c.litres_at-2.ensures.value)
+    in
+    record { value = told.0; read_off_both = told.1.0; exactly = told.1.1 }

@@ -1,6 +1,7 @@
 -- `lookup::litres::litres_at` meets its contract: each return is the case of the answer that its tests lead to, which
 -- tells the rest. Assumes nothing.
-use Rattle.std.proofs.Common.{arith, ◌≡◌, sym, ◌∙◌, ap, true, false, ℕ, le-leb, lt-leb, not-true, not-false}
+use Rattle.std.proofs.Common.{arith, ◌≡◌, sym, ◌∙◌, ap, true, false, ℕ, le-leb}
+use Rattle.std.proofs.lemmas.Bool.{lt-leb}
 use Rattle.measure.specs.Quantity.{dip_units, volume}
 use Rattle.refusal.specs.Test.{refusal}
 use Rattle.lookup.specs.declared.litres.LitresAnswer.TheVariants.{Litres, Refused}
@@ -11,33 +12,33 @@ use Rattle.lookup.specs.Answer.{too_high, litres_answer}
 use Rattle.lookup.proofs.AnswerLaws.{litres_told}
 use Rattle.lookup.proofs.litres.litres_at.Goals as goal
 
--- past the first test the table is sound
-fine : (c : tie.Else1)
-    → sound_table c.args.dh c.args.step c.args.table.now ≡ true
-fine c = sym c.is_sound_table.ensures ∙ not-false _ c.if-not-is_sound_table.false
-
-pub returns-then-not-is_sound_table : goal.returns-then-not-is_sound_table
+pub returns-then-not-is_sound_table-clause-value : goal.returns-then-not-is_sound_table-clause-value
 unfolding litres_answer
-returns-then-not-is_sound_table c =
+returns-then-not-is_sound_table-clause-value c =
     let a = c.args in
-    let faulty : sound_table a.dh a.step a.table.now ≡ false = sym c.is_sound_table.ensures ∙ not-true _ c.if-not-is_sound_table.true in
-    litres_told _ _ _ _ (simp faulty (ap Refused c.unsound.ensures))
+    let faulty : sound_table a.dh a.step a.table.now ≡ false = sym c.is_sound_table.ensures ∙ c.if-not-is_sound_table.true in
+    simp faulty (ap Refused c.unsound.ensures)
 
-pub returns-then-dh-h : goal.returns-then-dh-h
+pub returns-then-dh-h-clause-value : goal.returns-then-dh-h-clause-value
 unfolding litres_answer
-returns-then-dh-h c =
+returns-then-dh-h-clause-value c =
     let a = c.args in
+    let fine : sound_table a.dh a.step a.table.now ≡ true = sym c.is_sound_table.ensures ∙ c.if-not-is_sound_table.false in
     let height = c.units-h.ensures in
-    litres_told _ _ _ _ (simp (fine c, lt-leb (dip_units a.height) a.dh (omega (arith, height)))
-    (ap Refused (c.too_high.ensures ∙ ap (λ (h : ℕ). refusal 12 0 (too_high h a.dh)) height)))
+    simp (fine, lt-leb (dip_units a.height) a.dh (omega (arith, height)))
+    (ap Refused (c.too_high.ensures ∙ ap (λ (h : ℕ). refusal 12 0 (too_high h a.dh)) height))
 
 pub litres_inside-requires : goal.litres_inside-requires
-litres_inside-requires c = (sound _ _ _ (fine c), omega arith)
+litres_inside-requires c = (sound _ _ _ (sym c.is_sound_table.ensures ∙ c.if-not-is_sound_table.false), omega arith)
 
-pub returns : goal.returns
+pub returns-clause-value : goal.returns-clause-value
 unfolding litres_answer
-returns c =
+returns-clause-value c =
     let a = c.args in
+    let fine : sound_table a.dh a.step a.table.now ≡ true = sym c.is_sound_table.ensures ∙ c.if-not-is_sound_table.false in
     let height = c.units-h.ensures in
-    litres_told _ _ _ _ (simp (fine c, le-leb (dip_units a.height) a.dh (omega (arith, height)))
-    (ap Litres (c.of.ensures ∙ ap volume (c.litres_inside.ensures ∙ ap (litres a.dh a.step a.table.now) height))))
+    simp (fine, le-leb (dip_units a.height) a.dh (omega (arith, height)))
+    (ap Litres (c.of.ensures ∙ ap volume (c.litres_inside.ensures ∙ ap (litres a.dh a.step a.table.now) height)))
+
+pub returns-clause-read_off : goal.returns-clause-read_off
+returns-clause-read_off c = (litres_told _ _ _ _ (returns-clause-value c)).1.0

@@ -1,5 +1,6 @@
 -- `lookup::table::is_sound_table` meets its contract: its tests are the definition's, one after the other. Assumes nothing.
-use Rattle.std.proofs.Common.{arith, le-leb, lt-leb, eq-eqb, ne_eqb, length}
+use Rattle.std.proofs.Common.{arith, le-leb, eq-eqb, ne_eqb, length}
+use Rattle.std.proofs.lemmas.Bool.{lt-leb}
 use Rattle.measure.specs.Diameter.{smallest, largest}
 use Rattle.schedule.specs.Rows.{row_count, smallest_step, largest_step}
 use Rattle.lookup.specs.Table.{sound_table}
@@ -37,7 +38,7 @@ returns-then-table-count c =
     let a = c.args in
     let dh = a.dh in
     let step = a.step in
-    let size = ne_eqb (length a.table.now) (row_count dh step) (λ e. omega (arith, c.row_count-count.ensures.0)) in
+    let size = ne_eqb (length a.table.now) (row_count dh step) (λ e. omega (arith, c.row_count-count.ensures.value)) in
     simp (le-leb smallest dh (omega arith), le-leb dh largest (omega arith), le-leb smallest_step step (omega arith), le-leb step largest_step (omega arith), size)
 
 pub returns : goal.returns
@@ -46,5 +47,5 @@ returns c =
     let a = c.args in
     let dh = a.dh in
     let step = a.step in
-    let size = eq-eqb (length a.table.now) (row_count dh step) (omega (arith, c.row_count-count.ensures.0)) in
+    let size = eq-eqb (length a.table.now) (row_count dh step) (omega (arith, c.row_count-count.ensures.value)) in
     simp (le-leb smallest dh (omega arith), le-leb dh largest (omega arith), le-leb smallest_step step (omega arith), le-leb step largest_step (omega arith), size) c.never_falls.ensures

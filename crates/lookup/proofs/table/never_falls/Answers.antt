@@ -1,6 +1,7 @@
 -- `lookup::table::never_falls` meets its contract. The loop's invariant: no row passed is below the row before. The measure is what
 -- is left of the table. Assumes nothing.
-use Rattle.std.proofs.Common.{arith, ◌≡◌, refl, sym, true, List, ℕ, zero, suc, ◌-◌, ◌≤◌, add-one, lt-leb, le-leb, leb, length}
+use Rattle.std.proofs.Common.{arith, ◌≡◌, refl, sym, true, List, ℕ, zero, suc, ◌-◌, ◌≤◌, add-one, le-leb, leb, length}
+use Rattle.std.proofs.lemmas.Bool.{lt-leb}
 use Rattle.laws.specs.SearchLaws.{every_none, every_more, every_each, every_at, every_not}
 use Rattle.lookup.specs.Table.{row, keeps_up, never_falls}
 use Rattle.lookup.proofs.table.never_falls.Goals as goal

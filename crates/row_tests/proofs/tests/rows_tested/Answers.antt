@@ -1,6 +1,6 @@
--- `row_tests::tests::rows_tested` meets its contract. The loop's invariant: the verdict is that on the rows passed. The measure is the number of
--- rows left. Assumes nothing.
-use Rattle.std.proofs.Common.{arith, ◌≡◌, refl, sym, ◌∙◌, ap, ℕ, ◌-◌, lt-leb}
+-- `row_tests::tests::rows_tested` meets its contract: the verdict is refusal 8's, or that on the rows passed. Assumes nothing.
+use Rattle.std.proofs.Common.{arith, ◌≡◌, refl, sym, ◌∙◌, ap, ℕ}
+use Rattle.std.proofs.lemmas.Bool.{lt-leb}
 use Rattle.refusal.specs.declared.Verdict.TheVariants.{Refused}
 use Rattle.refusal.specs.Test.{refusal, verdict, items}
 use Rattle.refusal.specs.TestLaws.{verdict_next}
@@ -20,8 +20,9 @@ loop-i-init c = (omega arith, refl)
 
 pub loop-i-preserved : goal.loop-i-preserved
 loop-i-preserved c =
+    let a = c.args in
     let l = c.loop-i in
-    (omega arith, c.fall_tested-falls.ensures ∙ verdict_next l.i (fall_test _ _) l.invariant.1)
+    (omega arith, c.fall_tested-falls.ensures ∙ verdict_next l.i (fall_test (net_of a.net.now) (row_height a.dh a.step)) l.invariant.1)
 
 pub returns : goal.returns
 returns c =
@@ -31,6 +32,3 @@ returns c =
     l.invariant.1
     ∙ ap (λ (n : ℕ). verdict (items n (fall_test (net_of a.net.now) (row_height a.dh a.step)))) all
     ∙ sym (room_enough _ _ a.rows a.cells (omega arith))
-
-pub fall_tested-falls-requires : goal.fall_tested-falls-requires
-fall_tested-falls-requires c = (omega arith, omega arith, omega arith, omega arith)

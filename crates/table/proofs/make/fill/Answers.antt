@@ -11,37 +11,34 @@ use Rattle.table.proofs.make.fill.Goals as goal
 
 pub test_and_copy-requires : goal.test_and_copy-requires
 test_and_copy-requires c =
-    let worked = c in
-    let counted = worked in
-    let start = counted in
-    let v = start.args.v in
-    let n = counted.rows_in-rows.result in
-    let rows = counted.rows_in-rows.ensures in
-    rw (worked.net_rows.ensures, c.units.ensures) (
+    let v = c.args.v in
+    let n = c.rows_in-rows.result in
+    let rows = c.rows_in-rows.ensures in
+    rw (c.net_rows.ensures, c.units.ensures) (
       simp length-append (omega (arith, length_rows_of (net_row v) n)),
       omega (arith, rows.1),
-      omega (arith, start.requires.step_low),
+      omega (arith, c.requires.step_low),
       rows.0,
-      λ i l. rw (front_row (net_row v) n _ i l) (net_small v (height_of v i) start.requires),
+      λ i l. rw (front_row (net_row v) n _ i l) (net_small v (height_of v i) c.requires),
     )
 
-pub returns : goal.returns
-returns c =
-    let tested = c in
-    let measured = tested in
-    let worked = measured in
-    let counted = worked in
-    let v = counted.args.v in
-    let rows = counted.rows_in-rows.result in
-    let table = counted.args.table-1.now in
-    let net = worked.net_rows.ensures in
-    let judged = tested.test_and_copy.result in (
-      (rw measured.units.ensures at tested.test_and_copy.ensures.0)
-          ∙ ap (λ (n : List ℤ). verdict (row_tests (net_of n) (height_of v) rows (length table))) net
-          ∙ ap verdict (front_tests (net_row v) (height_of v) rows _ (length table))
-          ∙ ap (λ (r : ℕ). verdict (row_tests (net_row v) (height_of v) r (length table))) counted.rows_in-rows.ensures.0,
-      tested.test_and_copy.ensures.1
-          ∙ ap (λ (n : List ℤ). left_by judged (cell_in n) rows table) net
-          ∙ front_left judged (net_row v) rows _ table
-          ∙ ap (λ (r : ℕ). left_by judged (cell_of v) r table) counted.rows_in-rows.ensures.0,
-    )
+pub returns-clause-value : goal.returns-clause-value
+returns-clause-value c =
+    let v = c.args.v in
+    let rows = c.rows_in-rows.result in
+    let table = c.args.table.now in
+    (rw c.units.ensures at c.test_and_copy.ensures.value)
+    ∙ ap (λ (n : List ℤ). verdict (row_tests (net_of n) (height_of v) rows (length table))) c.net_rows.ensures
+    ∙ ap verdict (front_tests (net_row v) (height_of v) rows _ (length table))
+    ∙ ap (λ (r : ℕ). verdict (row_tests (net_row v) (height_of v) r (length table))) c.rows_in-rows.ensures.0
+
+pub returns-clause-table_after : goal.returns-clause-table_after
+returns-clause-table_after c =
+    let v = c.args.v in
+    let rows = c.rows_in-rows.result in
+    let table = c.args.table.now in
+    let judged = c.test_and_copy.result in
+    c.test_and_copy.ensures.table_after
+    ∙ ap (λ (n : List ℤ). left_by judged (cell_in n) rows table) c.net_rows.ensures
+    ∙ front_left judged (net_row v) rows _ table
+    ∙ ap (λ (r : ℕ). left_by judged (cell_of v) r table) c.rows_in-rows.ensures.0

@@ -7,23 +7,17 @@ use Rattle.row_tests.specs.Left.{left_by}
 use Rattle.table.specs.Answer.{table_left}
 use Rattle.table.proofs.make.filled.Goals as goal
 
-pub fill-requires : goal.fill-requires
-fill-requires c = let told = c in told.requires told.enum_told-1.given.1
-
-pub returns-in-Refused : goal.returns-in-Refused
+pub returns-in-Refused-clause-table_after : goal.returns-in-Refused-clause-table_after
 unfolding table_left
-returns-in-Refused c =
+returns-in-Refused-clause-table_after c =
     let a = c.args in
-    let refused = ap (λ w. first_refusal w (verdict (table_tests a.file.survey (length a.table-1.now)))) c.verdict-1.given.1 in
-    (sym refused, sym (ap (λ w. left_by w (cell_of a.file.survey) (rows_in a.file.survey) a.table-1.now) refused))
+    let refused = ap (λ w. first_refusal w (verdict (table_tests a.file.survey (length a.table.now)))) c.in-Refused.is in
+    sym (ap (λ w. left_by w (cell_of a.file.survey) (rows_in a.file.survey) a.table.now) refused)
 
-pub returns-in-Passed : goal.returns-in-Passed
+pub returns-in-Passed-clause-table_after : goal.returns-in-Passed-clause-table_after
 unfolding table_left
-returns-in-Passed c =
-    let done = c in
-    let told = done in
-    let a = told.args in
+returns-in-Passed-clause-table_after c =
+    let a = c.args in
     let v = a.file.survey in
-    let on = sym (ap (λ w. first_refusal w (verdict (table_tests v (length a.table-1.now)))) told.enum_told-1.given.1) in
-    let is = done.fill.ensures.0 ∙ on in
-    (is, done.fill.ensures.1 ∙ ap (λ w. left_by w (cell_of v) (rows_in v) a.table-1.now) is)
+    let passed = ap (λ w. first_refusal w (verdict (table_tests v (length a.table.now)))) c.in-Passed.is in
+    c.fill.ensures.table_after ∙ ap (λ w. left_by w (cell_of v) (rows_in v) a.table.now) (c.fill.ensures.value ∙ sym passed)

@@ -1,93 +1,81 @@
 -- `tank::filling::Filling::gross` meets its contract: the three parts' volumes, each within its bound. Assumes nothing.
-use Rattle.std.proofs.Common.{arith, ◌≡◌, ◌∙◌, ap, ap₂, ℕ, ◌+◌, ◌*◌, ◌≤◌}
+use Rattle.std.proofs.Common.{arith, ◌≡◌, ◌∙◌, ap, ap₂, ℕ, ◌+◌, ◌*◌, ◌^◌, ◌≤◌, ◌<◌}
+use Rattle.laws.specs.Nearest.{nearest}
+use Rattle.measure.specs.Diameter.{largest}
 use Rattle.measure.specs.declared.volume.Volume.{Volume}
-use Rattle.measure.specs.Quantity.{diameter_units, dip_units, volume, volume_units}
+use Rattle.measure.specs.Quantity.{diameter_units, dip_units, volume, volume_units, cubic_per_v}
 use Rattle.correction.specs.declared.shell_height.ShellHeight.{ShellHeight}
 use Rattle.correction.specs.ShellHeight.{shell_height, shell_units}
 use Rattle.correction.proofs.CorrectionLaws.{corrected_at_most}
 use Rattle.circle.specs.Circle.{doubled_area}
-use Rattle.heads.specs.declared.kind.HeadKind.{HeadKind}
 use Rattle.heads.specs.Volume.{heads_volume}
+use Rattle.tank.specs.declared.tank.Tank.{Tank}
 use Rattle.tank.specs.Limits.{longest_shell}
+use Rattle.tank.specs.Part.{cylinder_volume}
 use Rattle.tank.specs.Tank.{gross_at}
-use Rattle.tank.specs.TankLaws.{shell_at, heads_at, most_gross, gross_by_parts, gross_small}
+use Rattle.tank.specs.CylinderLaws.{cylinder_product}
+use Rattle.tank.specs.TankLaws.{shell_at, heads_at, gross_by_parts, gross_small}
 use Rattle.tank.proofs.filling.Filling.gross.Goals as goal
 
 -- a cylinder by the area that the code has of it: the product fits, and rounded it is the volume
--- the heads by the height that the code has of them
-both-heads : (kind : HeadKind) (d l : ℕ) {n : ℕ} {h : ShellHeight} {r : Volume}
-    → h ≡ shell_height n → r ≡ volume (heads_volume kind d l (shell_units h)) → volume_units r ≡ heads_volume kind d l n
-both-heads kind d l same e = ap volume_units e ∙ ap (λ x. heads_volume kind d l (shell_units x)) same
+module _ (d h l : ℕ) {area : ℕ} (same : area ≡ doubled_area d h) where
+  product_fits : h ≤ d → d ≤ largest → l ≤ longest_shell → area * l < 2 ^ 63
+  product_fits h_high d_high l_high = rw same (omega (arith, cylinder_product d l h h_high d_high l_high))
 
--- the areas of the tank's two circles
-abbrev shell_area : tie.Start → ℕ
-shell_area s = doubled_area (diameter_units s.args.t.d1) (shell_at s.args.t (dip_units s.args.h))
+  rounded : {r : Volume} → r ≡ volume (nearest (area * l) (2 * cubic_per_v)) → volume_units r ≡ cylinder_volume d l h
+  unfolding cylinder_volume
+  rounded e = ap volume_units e ∙ ap (λ (n : ℕ). nearest (n * l) (2 * cubic_per_v)) same
 
-abbrev flange_area : tie.Start → ℕ
-flange_area s = doubled_area (diameter_units s.args.t.d2-1) (heads_at s.args.t (dip_units s.args.h))
-
-shell-area : (c : tie.After-area) → c.area.result ≡ shell_area c
-shell-area c = c.area.ensures ∙ ap (λ f. f.shell-1.area) c.requires.1
-
-flange-area : (c : tie.After-area2)
-    → c.area-2.result ≡ flange_area c
-flange-area c =
-    c.area-2.ensures ∙ ap (λ f. f.flanges-1.area) c.requires.1
+-- the parts' volumes add up to the definition's gross
+together : (t : Tank) (h : ℕ) {shell_area flange_area : ℕ} {height : ShellHeight} {shell flanges heads : Volume}
+    → shell_area ≡ doubled_area (diameter_units t.d1) (shell_at t h) → flange_area ≡ doubled_area (diameter_units t.d2) (heads_at t h)
+    → height ≡ shell_height (heads_at t h) → shell ≡ volume (nearest (shell_area * t.l1) (2 * cubic_per_v))
+    → flanges ≡ volume (nearest (flange_area * (2 * t.l2)) (2 * cubic_per_v)) → heads ≡ volume (heads_volume t.kind (diameter_units t.d2) t.l3 (shell_units height))
+    → volume_units shell + volume_units flanges + volume_units heads ≡ gross_at t h
+together t h of_shell of_flanges there e f g =
+    rw (gross_by_parts t h)
+    (ap₂ ◌+◌
+    (ap₂ ◌+◌ (rounded _ _ t.l1 of_shell e) (rounded _ _ (2 * t.l2) of_flanges f))
+    (ap volume_units g ∙ ap (λ x. heads_volume t.kind (diameter_units t.d2) t.l3 (shell_units x)) there))
 
 pub cylinder_volume-of_shell-requires : goal.cylinder_volume-of_shell-requires
 cylinder_volume-of_shell-requires c =
-    let start = c in
-    let limits = start.requires.0 in
-    product_fits _ _ start.args.t.l1 (shell-area c) (corrected_at_most _ _ _) limits.d1_high limits.l1_high
+    let t = c.args.t in
+    let limits = c.requires.0 in
+    product_fits (diameter_units t.d1) (shell_at t (dip_units c.args.h)) t.l1 (c.area.ensures ∙ ap (λ f. f.shell.area) c.requires.1) (corrected_at_most _ _ _) limits.d1_high limits.l1_high
 
 pub cylinder_volume-of_flanges-requires : goal.cylinder_volume-of_flanges-requires
 cylinder_volume-of_flanges-requires c =
-    let start = c in
-    let limits = start.requires.0 in
-    let flanges : 2 * start.args.t.l2 ≤ longest_shell = omega (arith, limits.l2_high) in
-    product_fits _ _ (2 * start.args.t.l2) (flange-area c) (corrected_at_most _ _ _) limits.d2_high flanges
+    let t = c.args.t in
+    let limits = c.requires.0 in
+    let flanges : 2 * t.l2 ≤ longest_shell = omega (arith, limits.l2_high) in
+    product_fits (diameter_units t.d2) (heads_at t (dip_units c.args.h)) (2 * t.l2) (c.area-2.ensures ∙ ap (λ f. f.flanges.area) c.requires.1) (corrected_at_most _ _ _) limits.d2_high flanges
 
-pub heads_volume-of_heads-requires : goal.heads_volume-of_heads-requires
-heads_volume-of_heads-requires c =
-    let start = c in
-    let limits = start.requires.0 in
-    rw c.corrected.ensures ((corrected_at_most _ _ _, omega (arith, limits.d2_low), limits.d2_high, limits.heads-1), ap (λ f. f.heads-1) start.requires.1)
-module _ (c : tie.After-heads-volume) where
-  abbrev start : tie.Start
-  start = c
+pub heads_volume-of_heads-requires-clause-limits : goal.heads_volume-of_heads-requires-clause-limits
+heads_volume-of_heads-requires-clause-limits c =
+    let limits = c.requires.0 in
+    rw c.corrected.ensures (corrected_at_most _ _ _, omega (arith, limits.d2_low), limits.d2_high, limits.heads)
 
-  abbrev of-shell : tie.After-cylinder-volume
-  of-shell = c
+pub plus-requires : goal.plus-requires
+plus-requires c =
+    let h = dip_units c.args.h in
+    let all =
+    together c.args.t h (c.area.ensures ∙ ap (λ f. f.shell.area) c.requires.1) (c.area-2.ensures ∙ ap (λ f. f.flanges.area) c.requires.1)
+    c.corrected.ensures c.cylinder_volume-of_shell.ensures c.cylinder_volume-of_flanges.ensures c.heads_volume-of_heads.ensures in
+    omega (arith, all, gross_small c.args.t h c.requires.0)
 
-  abbrev of-flanges : tie.After-cylinder-volume2
-  of-flanges = c
+pub plus-requires-2 : goal.plus-requires-2
+plus-requires-2 c =
+    let h = dip_units c.args.h in
+    let all =
+    together c.args.t h (c.area.ensures ∙ ap (λ f. f.shell.area) c.requires.1) (c.area-2.ensures ∙ ap (λ f. f.flanges.area) c.requires.1)
+    c.corrected.ensures c.cylinder_volume-of_shell.ensures c.cylinder_volume-of_flanges.ensures c.heads_volume-of_heads.ensures in
+    rw c.plus.ensures (omega (arith, all, gross_small c.args.t h c.requires.0))
 
-  abbrev total : ℕ
-  total =
-      volume_units of-shell.cylinder_volume-of_shell.result + volume_units of-flanges.cylinder_volume-of_flanges.result + volume_units c.heads_volume-of_heads.result
-
-  together : total ≡ gross_at start.args.t (dip_units start.args.h)
-  together =
-      let t = start.args.t in
-      rw (gross_by_parts t (dip_units start.args.h))
-      (ap₂ ◌+◌
-      (ap₂ ◌+◌
-      (rounded _ _ t.l1 (shell-area of-shell) of-shell.cylinder_volume-of_shell.ensures)
-      (rounded _ _ (2 * t.l2) (flange-area of-flanges) of-flanges.cylinder_volume-of_flanges.ensures))
-      (both-heads t.kind _ t.l3 c.corrected.ensures c.heads_volume-of_heads.ensures))
-
-  fits : total ≤ most_gross
-  fits = rw together (gross_small start.args.t (dip_units start.args.h) start.pre.0)
-
--- at the end: the parts' volumes add up to the definition's gross, which is small
 pub returns : goal.returns
 returns c =
     let heads = c.heads_volume-of_heads.result in
-    c.plus-2.ensures
-    ∙ ap volume (ap (λ x. volume_units x + volume_units heads) c.plus.ensures ∙ together c)
-
-pub plus-requires : goal.plus-requires
-plus-requires c = omega (arith, fits c)
-
-pub plus-requires-2 : goal.plus-requires-2
-plus-requires-2 c = rw c.plus.ensures (omega (arith, fits c))
+    let all =
+    together c.args.t (dip_units c.args.h) (c.area.ensures ∙ ap (λ f. f.shell.area) c.requires.1) (c.area-2.ensures ∙ ap (λ f. f.flanges.area) c.requires.1)
+    c.corrected.ensures c.cylinder_volume-of_shell.ensures c.cylinder_volume-of_flanges.ensures c.heads_volume-of_heads.ensures in
+    c.plus-2.ensures ∙ ap volume (ap (λ x. volume_units x + volume_units heads) c.plus.ensures ∙ all)

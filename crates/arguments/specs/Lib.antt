@@ -1,0 +1,2 @@
+-- What the contracts of `arguments` cite. Assumes nothing.
+pub mod Words

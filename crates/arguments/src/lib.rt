@@ -1,0 +1,112 @@
+// What a program is asked, `PROGRAM [-f FILE] WORD ..`: its own words, the survey that it is handed, and where it says what it has to say.
+// No contract can tell what an argument holds, so each says what follows whatever it holds.
+#![tactic(auto)]
+
+ghost use Rattle.std.specs.Prelude.{◌≡◌, true, ◌||◌, ◌≤◌, length};
+ghost use Rattle.io.specs.Counts.{IsPrefixLen};
+ghost use Rattle.streams.specs.Whole.{Written};
+ghost use Rattle.figures.specs.Figures.{figure_of};
+ghost use Rattle.arguments.specs.Words.{Begins, longest_word, ReadFrom};
+
+use figures::{Figure, read_figure};
+use streams::{Moved, argument, argument_count, read_input, read_named, write_output, write_whole};
+use survey::decode::LARGEST_FILE;
+
+// Room to read a survey: one byte more than one may have tells that it is too long.
+pub const SURVEY_ROOM: usize = LARGEST_FILE + 1;
+
+// A program's own words, arguments `first` up to `end`: behind `-f FILE` where the survey is `named` so, else behind the program's name.
+#[derive(Clone, Copy)]
+pub struct Own {
+    pub named: bool,
+    pub first: usize,
+    pub end: usize,
+}
+
+// Whether argument i is this word. One that has no room here is not.
+pub fn is_word(rt: &HostRuntime, i: usize, word: &[u8]) -> bool
+    ensures { result ≡ true → length word.now ≤ longest_word }
+{
+    let mut text = [0u8; 16];
+    let n = argument(rt, i, &mut text);
+    check::same(&text[..n], word)
+}
+
+// The figure that argument i is. One that has no room here is none.
+pub fn figure_at(rt: &HostRuntime, i: usize) -> Figure
+    ensures { ReadFrom figure_of result }
+{
+    let mut text = [0u8; 32];
+    let n = argument(rt, i, &mut text);
+    read_figure(&text[..n])
+}
+
+// Whether arguments `first` up to `end` are figures, each of them.
+pub fn are_figures(rt: &HostRuntime, first: usize, end: usize) -> bool
+    ensures { end ≤ first → result ≡ true }
+{
+    let mut i = first;
+    while i < end {
+        let figure = figure_at(rt, i);
+        if let Figure::NotAFigure = figure {
+            return false;
+        }
+        i += 1;
+    }
+    true
+}
+
+// Which words are the program's own. `-f` with nothing behind it names no file: it is one of them, and no program knows it.
+pub fn own_words(rt: &HostRuntime) -> Own
+    ensures { Begins result }
+{
+    let end = argument_count(rt);
+    if 3 <= end && is_word(rt, 1, b"-f") {
+        return Own {
+            named: true,
+            first: 3,
+            end,
+        };
+    }
+    Own {
+        named: false,
+        first: 1,
+        end,
+    }
+}
+
+// Tells the program's use in place of all else: on standard output where `--help` is all that is asked, on standard error where the words
+// are not right. Answers whether it did, which is before anything is read.
+pub fn tells_use(rt: &HostRuntime, own: Own, right: bool, text: &[u8]) -> bool
+    ensures { (result || right) ≡ true }
+{
+    if own.end == 2 && is_word(rt, 1, b"--help") {
+        write_whole(rt, &mut rt.stdout(), text);
+        return true;
+    }
+    if right {
+        return false;
+    }
+    write_whole(rt, &mut rt.stderr(), text);
+    true
+}
+
+// The survey, whole, from the file that is named or from standard input, as far as buf has room for it.
+pub fn read_survey(rt: &HostRuntime, own: Own, buf: &mut [u8]) -> Moved
+    ensures prefix_len { IsPrefixLen result.count buf.new }
+    ensures buf_len_unchanged { length buf.new ≡ length buf.old }
+{
+    if own.named {
+        return read_named(rt, 2, buf);
+    }
+    read_input(rt, buf)
+}
+
+// What is said, to standard output and then to standard error. Answers what came of the first.
+pub fn write_said(rt: &HostRuntime, out: &[u8], err: &[u8]) -> Moved
+    ensures { Written (length out.now) result }
+{
+    let put = write_output(rt, out);
+    write_whole(rt, &mut rt.stderr(), err);
+    put
+}
