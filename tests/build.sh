@@ -27,14 +27,6 @@ program() {
     cp "crates/$1/out/$1" target/bin/
 }
 
-# The rooms below a room, each once, lowest first.
-below() {
-    local name
-    for name in $(sed -nE "s/^$1( staticlib)?: *//p" crates.txt); do
-        grep -qE "^$name( staticlib)?:" crates.txt && below "$name" && echo "$name"
-    done | awk '!seen[$0]++'
-}
-
 # `rt ci` proves the archive's room and keeps no archive. The libraries that it left have no stamp, and `rt lib` would prove them all anew; so
 # rattle builds over them, and proves the room itself once more.
 archive() {
@@ -42,10 +34,8 @@ archive() {
     kit=$(dirname "$(rt doc)")
     if is_fresh crates/capi/out/rlib/capi.rlib/format && [ ! -f crates/capi/out/rlib/stamp ]; then
         for name in core std; do words+=(--extern "$name=$kit/rlibs/$name.rlib"); done
-        for name in $(below capi_c); do
-            grep -qE "^capi_c staticlib:.* $name( |$)" crates.txt && words+=(--extern "$name=crates/$name/out/rlib/$name.rlib")
-            words+=(-L "dependency=crates/$name/out/rlib")
-        done
+        for name in $(sed -n 's/^capi_c staticlib: *//p' crates.txt); do words+=(--extern "$name=crates/$name/out/rlib/$name.rlib"); done
+        for name in crates/*/out/rlib; do words+=(-L "dependency=$name"); done
         "$kit/bin/rattle" build --crate-name capi_c --crate-type staticlib crates/capi_c/src/lib.rt "${words[@]}" -L "dependency=$kit/rlibs" \
             --antt-project "$kit/rattle/logic/antt-project.json" --logic-built "$kit/logic_built" --toolchain "$kit/toolchain" \
             --links capi_c= -o target/staticlib/libcapi.a
