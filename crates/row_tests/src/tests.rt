@@ -32,6 +32,7 @@ fn fall_tested(so_far: Verdict, net: &[i64], dh: u32, step: u32, i: usize) -> Ve
 
 // Refusals 8 and 9 of the first `rows` rows of `net`, for a lent table of so many cells. None need be tested for being below zero: at height 0 nothing
 // is deducted, and a later row would have fallen.
+#[tactic(auto, using(crate::proofs::Room::room_short))]
 pub fn rows_tested(net: &[i64], dh: u32, step: u32, rows: usize, cells: usize) -> Verdict
     requires { (rows ≤ length net.now) × (rows < 2 ^ 32) × (0 < step) × (rows ≡ row_count dh step) }
     ensures { result ≡ verdict (row_tests (net_of net.now) (row_height dh step) rows cells) }

@@ -8,7 +8,8 @@ use Rattle.measure.specs.Quantity.{diameter_units}
 use Rattle.schedule.specs.Rows.{row_height}
 use Rattle.slabs.specs.Slab.{Cut, Some}
 use Rattle.tank.specs.Tank.{gross_at}
-use Rattle.tank.specs.TotalLaws.{InWords, in_words}
+use Rattle.tank.specs.TotalLaws.{InWords}
+use Rattle.tank.proofs.TotalLaws.{in_words}
 use Rattle.deadwood.specs.Share.{shares_of}
 use Rattle.survey.specs.declared.decode.Survey.{Survey}
 use Rattle.survey.specs.Survey.{items_in}

@@ -15,5 +15,4 @@ pub mod LevelLaws
 pub mod WidthLaws
 pub mod CylinderSlabsLaws
 pub mod CylinderCutLaws
-pub mod Condition3Laws
 pub mod TotalLaws

@@ -11,6 +11,7 @@ use Rattle.file.specs.Word.{word}
 use Rattle.file.specs.Layout.{kind_at, dh_at, l1_at, l3_at}
 use Rattle.readings.specs.FitLaws.{as_they_stand}
 use Rattle.numbers.specs.FitLaws.{dh_fits, shell_fits}
+use Rattle.dimensions.specs.declared.dimensions.Dimensions.{Dimensions}
 use Rattle.dimensions.specs.Dimensions.{sums_of, d1, d2, diameter_fits}
 use Rattle.dimensions.specs.SumLaws.{diameters_small}
 use Rattle.dimensions.specs.Tests.{lengths_test, diameter_tests, head_length_test, dimension_tests}
@@ -36,6 +37,13 @@ behind : (f : Format) (s : List ℕ) {v : Verdict} → v ≡ verdict (lengths_te
 unfolding dimension_tests
 behind f s e = ap (judged_by f s) (ap (λ v. first_refusal v (verdict (rest f s))) e ∙ sym (verdict_append (lengths_test (sums_of f s) (word s l1_at) ∷ []) (rest f s)))
 
+-- what is found of a file that passes refusal 6, and what its heads make of it
+judged : (f : Format) (s : List ℕ) {found told : Dimensions} → Verdict.Passed ≡ verdict (lengths_test (sums_of f s) (word s l1_at) ∷ [])
+    → found ≡ diameters_judged s (sums_of f s)
+    → told ≡ heads_tested (kind_of (word s kind_at)) (word s l3_at) «found»
+    → told ≡ judged_by f s (verdict (dimension_tests f s))
+judged f s lengths is e = e ∙ ap (heads_tested (kind_of (word s kind_at)) (word s l3_at)) is ∙ by-fit f s ∙ behind f s lengths
+
 pub lengths_tested-lengths-requires : goal.lengths_tested-lengths-requires
 lengths_tested-lengths-requires c =
     let sums = c.file_sums-t.ensures.sums_small in
@@ -58,8 +66,6 @@ diameters_in-requires-clause-diameters_small c =
 
 pub returns : goal.returns
 returns c =
-    let f = c.args.f in
-    let s = c.args.s.now in
     let lengths = rw (c.file_sums-t.ensures.value, c.word.ensures) at c.in_default.ensures in
     let found = rw c.file_sums-t.ensures.value at c.diameters_in.ensures in
-    (rw found at c.heads_in.ensures) ∙ by-fit f s ∙ behind f s lengths
+    judged c.args.f c.args.s.now lengths found c.heads_in.ensures

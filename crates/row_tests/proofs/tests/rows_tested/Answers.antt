@@ -1,18 +1,12 @@
 -- `row_tests::tests::rows_tested` meets its contract: the verdict is refusal 8's, or that on the rows passed. Assumes nothing.
 use Rattle.std.proofs.Common.{arith, ◌≡◌, refl, sym, ◌∙◌, ap, ℕ}
-use Rattle.std.proofs.lemmas.Bool.{lt-leb}
-use Rattle.refusal.specs.declared.Verdict.TheVariants.{Refused}
-use Rattle.refusal.specs.Test.{refusal, verdict, items}
+use Rattle.refusal.specs.Test.{verdict, items}
 use Rattle.refusal.specs.TestLaws.{verdict_next}
 use Rattle.schedule.specs.Rows.{row_height}
 use Rattle.rows.specs.RowLaws.{net_of}
-use Rattle.row_tests.specs.Tests.{fall_test, row_tests}
+use Rattle.row_tests.specs.Tests.{fall_test}
 use Rattle.row_tests.specs.RowTestLaws.{room_enough}
 use Rattle.row_tests.proofs.tests.rows_tested.Goals as goal
-
-pub returns-then-cells-rows : goal.returns-then-cells-rows
-unfolding row_tests
-returns-then-cells-rows c = rw (lt-leb _ _ c.if-cells-rows.true) (ap (λ x. Refused (refusal 8 0 x)) c.about_of-about.ensures)
 
 pub loop-i-init : goal.loop-i-init
 unfolding items

@@ -1,0 +1,2 @@
+pub mod Condition3Laws
+pub mod TotalLaws
