@@ -35,14 +35,13 @@ returns-in-Refused-numbers c =
     rw (behind c.args.f c.args.s.now, ← c.in_default.ensures, ← c.in_default-placed.ensures, ← c.in-Refused-numbers.ensures)
 
 pub measured-requires : goal.measured-requires
-measured-requires c =
-    (
-      c.requires,
-      record {
-        placed = placed_file c.args.f c.args.s.now c.requires (sym c.in_default.ensures) (sym c.in_default-placed.ensures);
-        numbers = sym c.in_default-numbers.ensures;
-      }
-    )
+measured-requires c = (
+  c.requires,
+  record {
+    placed = placed_file c.args.f c.args.s.now c.requires (sym c.in_default.ensures) (sym c.in_default-placed.ensures);
+    numbers = sym c.in_default-numbers.ensures;
+  },
+)
 
 pub returns : goal.returns
 returns c =
