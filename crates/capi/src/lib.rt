@@ -38,8 +38,8 @@ use table::make::make_table;
 pub extern "C" fn milechime_table(survey: &[u8], table: &mut [u32]) -> TableNumbers
     ensures value { result ≡ table_numbers (made (decoded survey.now) (length table.old)) }
     ensures table_after { table.new ≡ table_left (decoded survey.now) table.old }
-    ensures every_counted { EveryCounted NetRowAt (decoded survey.now).survey result.rows table.new }
-    ensures every_counted_2 { EveryCounted Condition3At (decoded survey.now).survey result.rows table.new }
+    ensures net_rows { EveryCounted NetRowAt (decoded survey.now).survey result.rows table.new }
+    ensures condition3 { EveryCounted Condition3At (decoded survey.now).survey result.rows table.new }
 {
     table_numbers(make_table(survey, table))
 }

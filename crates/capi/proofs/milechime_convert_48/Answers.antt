@@ -1,4 +1,4 @@
--- `capi::milechime_convert_48` meets its contract: the numbers of the library's own answer, and what it says of the file. Assumes nothing.
+-- `capi::milechime_convert_48` meets its contract: what the library says of the file, said of the numbers. Assumes nothing.
 use Rattle.std.proofs.Common.{◌∙◌, ap}
 use Rattle.convert.specs.Converted.{converted}
 use Rattle.answers.specs.Numbers.{converted_numbers}
@@ -7,12 +7,16 @@ use Rattle.answers.specs.PromiseLaws.{converted_keeps, numbers_short}
 use Rattle.capi.proofs.milechime_convert_48.Goals as goal
 
 pub converted_numbers-requires : goal.converted_numbers-requires
-converted_numbers-requires c = rw c.convert_48.ensures.0 (converted_short c.args.survey.now)
+converted_numbers-requires c = rw c.convert_48.ensures.value (converted_short c.args.survey.now)
 
-pub returns : goal.returns
-returns c =
-    let s = c.args.survey.now in
+pub returns-clause-converted_keeps : goal.returns-clause-converted_keeps
+returns-clause-converted_keeps c =
     let told = c.convert_48.ensures in
-    let numbers = c.converted_numbers.ensures ∙ ap converted_numbers told.0 in
-    let file = converted s in
-    (numbers, rw numbers (converted_keeps s (rw told.0 at told.1), numbers_short file.verdict file.length file.file (converted_short s)))
+    rw (c.converted_numbers.ensures ∙ ap converted_numbers told.value)
+    (converted_keeps c.args.survey.now (rw told.value at told.keeps))
+
+pub returns-clause-length_le_most_bytes : goal.returns-clause-length_le_most_bytes
+returns-clause-length_le_most_bytes c =
+    let file = converted c.args.survey.now in
+    rw (c.converted_numbers.ensures ∙ ap converted_numbers c.convert_48.ensures.value)
+    (numbers_short file.verdict file.length file.file (converted_short c.args.survey.now))

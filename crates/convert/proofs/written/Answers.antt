@@ -1,5 +1,6 @@
 -- `convert::written` meets its contract: the file that is put stands at the front, and zeros behind it. Assumes nothing.
-use Rattle.std.proofs.Common.{ℕ, ◌≤◌, ap₂, List, length, replicate, length-replicate}
+use Rattle.std.proofs.Common.{ℕ, ◌≤◌, ap₂, List, length, replicate}
+use Rattle.std.proofs.lemmas.List.{length-replicate}
 use Rattle.rewrite.specs.Rewritten.{rewritten, most_bytes}
 use Rattle.refusal.specs.declared.Verdict.TheVariants.{Passed}
 use Rattle.text.specs.PutLaws.{put_fits}
@@ -11,7 +12,7 @@ converted-to length file = record { verdict = Passed; length = length; file = fi
 
 pub returns : goal.returns
 returns c =
-    let put = c.put_rewritten-length in
-    let fits : length (rewritten c.args.survey.now) ≤ length {A = ℕ} (replicate most_bytes 0) = rw length-replicate put.ensures.1.0 in
-    let whole = put_fits put.ensures.0 fits in
+    let put = c.put_rewritten-length.ensures in
+    let fits : length (rewritten c.args.survey.now) ≤ length {A = ℕ} (replicate most_bytes 0) = rw length-replicate put.s_len_bound in
+    let whole = put_fits put.put fits in
     ap₂ converted-to whole.1 whole.0

@@ -3,12 +3,19 @@ use Rattle.survey_lookup.specs.Answer.{delivered_in}
 use Rattle.survey_lookup.specs.AnsweredLaws.{delivered_in_told}
 use Rattle.survey_lookup.proofs.delivered_in.Goals as goal
 
-pub returns-in-Refused : goal.returns-in-Refused
+pub returns-in-Refused-clause-value : goal.returns-in-Refused-clause-value
 unfolding delivered_in
-returns-in-Refused c = delivered_in_told _ _ _ (rw c.verdict-1.given.1)
+returns-in-Refused-clause-value c = rw c.in-Refused.is
 
-pub returns-in-Passed : goal.returns-in-Passed
+pub returns-in-Refused-clause-as_from_file : goal.returns-in-Refused-clause-as_from_file
 unfolding delivered_in
-returns-in-Passed c =
-    delivered_in_told _ _ _
-    (rw (c.enum_told-1.given.1, ← c.front.ensures) c.delivered.ensures.0)
+returns-in-Refused-clause-as_from_file c = (delivered_in_told c.args.t _ _ (rw c.in-Refused.is)).1
+
+pub returns-in-Passed-clause-value : goal.returns-in-Passed-clause-value
+unfolding delivered_in
+returns-in-Passed-clause-value c = rw (c.in-Passed.is, ← c.front.ensures) c.delivered.ensures.value
+
+pub returns-in-Passed-clause-as_from_file : goal.returns-in-Passed-clause-as_from_file
+unfolding delivered_in
+returns-in-Passed-clause-as_from_file c =
+    (delivered_in_told c.args.t _ _ (rw (c.in-Passed.is, ← c.front.ensures) c.delivered.ensures.value)).1

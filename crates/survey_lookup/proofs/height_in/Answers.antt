@@ -3,12 +3,19 @@ use Rattle.survey_lookup.specs.Answer.{height_in}
 use Rattle.survey_lookup.specs.AnsweredLaws.{height_in_told}
 use Rattle.survey_lookup.proofs.height_in.Goals as goal
 
-pub returns-in-Refused : goal.returns-in-Refused
+pub returns-in-Refused-clause-value : goal.returns-in-Refused-clause-value
 unfolding height_in
-returns-in-Refused c = height_in_told _ _ (rw c.verdict-1.given.1)
+returns-in-Refused-clause-value c = rw c.in-Refused.is
 
-pub returns-in-Passed : goal.returns-in-Passed
+pub returns-in-Refused-clause-as_from_file : goal.returns-in-Refused-clause-as_from_file
 unfolding height_in
-returns-in-Passed c =
-    height_in_told _ _
-    (rw (c.enum_told-1.given.1, ← c.front.ensures) c.height_for.ensures.0)
+returns-in-Refused-clause-as_from_file c = (height_in_told c.args.t _ (rw c.in-Refused.is)).1
+
+pub returns-in-Passed-clause-value : goal.returns-in-Passed-clause-value
+unfolding height_in
+returns-in-Passed-clause-value c = rw (c.in-Passed.is, ← c.front.ensures) c.height_for.ensures.value
+
+pub returns-in-Passed-clause-as_from_file : goal.returns-in-Passed-clause-as_from_file
+unfolding height_in
+returns-in-Passed-clause-as_from_file c =
+    (height_in_told c.args.t _ (rw (c.in-Passed.is, ← c.front.ensures) c.height_for.ensures.value)).1

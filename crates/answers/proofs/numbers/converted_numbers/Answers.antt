@@ -1,14 +1,9 @@
--- `answers::numbers::converted_numbers` meets its contract: each arm is the case of the definition that its verdict leads to. Assumes nothing.
+-- `answers::numbers::converted_numbers` meets its contract: a refusal is the case of the definition that its verdict leads to. Assumes nothing.
 use Rattle.std.proofs.Common.{sym, ap}
 use Rattle.answers.specs.Numbers.{file_numbers}
 use Rattle.answers.proofs.numbers.converted_numbers.Goals as goal
 
-pub returns-in-Passed : goal.returns-in-Passed
-returns-in-Passed c =
-    let a = c.args.answer in
-    sym (ap (λ w. file_numbers w a.length a.file-1) c.enum_told-1.given.1)
-
 pub returns-in-Refused : goal.returns-in-Refused
 returns-in-Refused c =
     let a = c.args.answer in
-    sym (ap (λ w. file_numbers w a.length a.file-1) c.verdict-1.given.1)
+    sym (ap (λ w. file_numbers w a.length a.file) c.in-Refused.is)

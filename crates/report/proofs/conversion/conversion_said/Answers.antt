@@ -5,7 +5,5 @@ use Rattle.report.proofs.conversion.conversion_said.Goals as goal
 
 pub returns : goal.returns
 returns c =
-    let said = c in
-    let made = said in
-    let short = converted_short made.args.survey.now in
-    rw (← made.convert_48-c.ensures.0) (said.file_said.ensures _ (omega arith) (rw (← made.convert_48-c.ensures.0) at short))
+    let made = c.convert_48-c.ensures.value in
+    rw (← made) (c.file_said.ensures _ (omega arith) (rw (← made) at (converted_short c.args.survey.now)))

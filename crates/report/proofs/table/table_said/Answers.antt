@@ -1,4 +1,4 @@
--- `report::table::table_said` meets its contract: the table is the survey file's own, and is whole where it is not refused. Assumes nothing.
+-- `report::table::table_said` meets its contract: the table is whole where it is not refused. Assumes nothing.
 use Rattle.survey_lookup.specs.TabledLaws.{ready_file}
 use Rattle.report.proofs.table.table_said.Goals as goal
 
@@ -6,8 +6,3 @@ pub rows_said-requires : goal.rows_said-requires
 rows_said-requires c passed =
     let t = ready_file _ c.table_of-t.ensures passed in
     (t.step_low, t.rows_are, t.few, t.inside)
-
-pub returns : goal.returns
-returns c =
-    let said = c in
-    rw (← said.table_of-t.ensures) said.rows_said.ensures

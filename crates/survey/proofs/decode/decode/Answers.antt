@@ -1,16 +1,14 @@
 -- `survey::decode::decode` meets its contract: today's format can be read. Assumes nothing.
 use Rattle.std.proofs.Common.{◌∙◌, ap}
-use Rattle.file.specs.SectionLaws.{today_readable}
 use Rattle.survey.specs.Survey.{decoded_as, decoded}
 use Rattle.survey.proofs.SurveyLaws.{decoded_fits}
 use Rattle.survey.proofs.decode.decode.Goals as goal
 
-pub decode_as-requires : goal.decode_as-requires
-decode_as-requires c = rw c.today.ensures today_readable
-
-pub returns : goal.returns
+pub returns-clause-value : goal.returns-clause-value
 unfolding decoded
-returns c =
-    let s = c.args.s.now in
-    let is = c.decode_as.ensures ∙ ap (λ f. decoded_as f s) c.today.ensures in
-    (is, rw is (decoded_fits s))
+returns-clause-value c = c.decode_as.ensures ∙ ap (λ f. decoded_as f c.args.s.now) c.today.ensures
+
+pub returns-clause-within_limits : goal.returns-clause-within_limits
+unfolding decoded
+returns-clause-within_limits c =
+    rw (c.decode_as.ensures ∙ ap (λ f. decoded_as f c.args.s.now) c.today.ensures) (decoded_fits c.args.s.now)

@@ -6,11 +6,7 @@ use Rattle.survey.specs.Survey.{decoded_as}
 use Rattle.survey.proofs.SurveyLaws.{decoded_as_fits}
 use Rattle.survey.proofs.decode.decode_48.Goals as goal
 
-pub decode_as-requires : goal.decode_as-requires
-decode_as-requires c = rw c.header_of_48.ensures format48_readable
-
-pub returns : goal.returns
-returns c =
+pub returns-clause-within_limits : goal.returns-clause-within_limits
+returns-clause-within_limits c =
     let s = c.args.s.now in
-    let is = c.decode_as.ensures ∙ ap (λ f. decoded_as f s) c.header_of_48.ensures in
-    (is, rw is (decoded_as_fits format48 s format48_readable))
+    rw (c.decode_as.ensures ∙ ap (λ f. decoded_as f s) c.header_of_48.ensures) (decoded_as_fits format48 s format48_readable)
