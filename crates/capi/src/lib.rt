@@ -16,7 +16,7 @@ ghost use Rattle.sentences.specs.Sentences.{words_size};
 ghost use Rattle.answers.specs.Numbers.{table_numbers, litres_numbers, height_numbers, converted_numbers, words_of, conversion_words};
 ghost use Rattle.answers.specs.Promises.{EveryCounted, OnTableAnswered, LowestAnswered, ConvertedKeeps};
 
-use answers::numbers::{
+use answers::plain_numbers::{
     ConvertedNumbers, HeightNumbers, LitresNumbers, TableNumbers, converted_numbers,
     height_numbers, litres_numbers, table_numbers,
 };

@@ -15,7 +15,7 @@ ghost use Rattle.sentences.specs.Sentences.{words_size};
 ghost use Rattle.answers.specs.Numbers.{table_numbers, litres_numbers, height_numbers, converted_numbers, words_of, conversion_words};
 ghost use Rattle.answers.specs.Promises.{EveryCounted, OnTableAnswered, LowestAnswered, ConvertedKeeps};
 
-use answers::numbers::{ConvertedNumbers, HeightNumbers, LitresNumbers, TableNumbers};
+use answers::plain_numbers::{ConvertedNumbers, HeightNumbers, LitresNumbers, TableNumbers};
 use answers::words::Words;
 
 // The table of a survey, from the start of the lent table; a refusal leaves it as it was.
