@@ -1,10 +1,9 @@
 -- `survey::judge::judged` meets its contract: a test that passes leaves the tests behind it, and each return is at the first that does not. What passed before a test is what its code needs. Assumes nothing.
 use Rattle.std.proofs.Common.{◌≡◌, sym, ◌∙◌, ap, List, ◌++◌, ℕ}
-use Rattle.refusal.specs.declared.Verdict.TheVariants.{Passed}
 use Rattle.refusal.specs.Test.{verdict, first_refusal}
 use Rattle.refusal.specs.TestLaws.{verdict_append}
 use Rattle.file.specs.declared.format.Format.{Format}
-use Rattle.form.specs.PlacedLaws.{Placed, size_fits, placed_file}
+use Rattle.form.specs.PlacedLaws.{placed_file}
 use Rattle.form.specs.Tests.{size_tests, layout_tests}
 use Rattle.readings.specs.Tests.{number_tests}
 use Rattle.dimensions.specs.Tests.{dimension_tests}
