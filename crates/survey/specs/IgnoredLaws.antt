@@ -4,7 +4,7 @@ use Prim.Native.Nat.{ℕ, ◌≤◌, ◌<◌}
 use Rattle.std.specs.Prelude.{◌≡◌, get_or}
 use mathlib.Core.List.{List, Memᴰ}
 use Rattle.std.proofs.Math.ListN.{length}
-use Rattle.refusal.specs.Test.{verdict, within}
+use Rattle.refusal.specs.Test.{within}
 use Rattle.refusal.specs.PlainLaws.{plain}
 use Rattle.file.specs.declared.format.Format.{Format}
 use Rattle.file.specs.declared.section.Section.{Section}
@@ -12,7 +12,6 @@ use Rattle.file.specs.Format.{today}
 use Rattle.file.specs.Limits.{largest_file}
 use Rattle.file.specs.Section.{sections, end_of, placed}
 use Rattle.survey.specs.declared.decode.Decoded.{Decoded}
-use Rattle.survey.specs.Survey.{decoded}
 
 -- two files agree in the bytes from one place up to another
 abbrev pub SameBytes : (s s' : List ℕ) (start end : ℕ) → Type 0

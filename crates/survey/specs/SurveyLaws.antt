@@ -1,7 +1,6 @@
 -- What a file that is not refused promises of its survey, as plain facts. Assumes nothing.
 use Rattle.std.specs.Prelude.{◌≤◌, ◌≡◌}
 use Rattle.refusal.specs.declared.Verdict.TheVariants.{Passed}
-use Rattle.refusal.specs.Test.{verdict}
 use Rattle.deadwood.specs.Item.{most_items}
 use Rattle.deadwood.specs.ListLaws.{DeadwoodLimits}
 use Rattle.schedule.specs.Rows.{smallest_step, largest_step}

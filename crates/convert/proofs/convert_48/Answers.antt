@@ -22,7 +22,7 @@ unfolding converted
 returns-in-Refused-clause-keeps c =
     let s = c.args.survey.now in
     let is : c.refused.result ≡ converted s =
-        rw (sym (c.in-Refused.ensures ∙ ap (λ file. verdict_on file most_rows) c.decode_48.ensures.value)) (c.refused.ensures s) in
+    rw (sym (c.in-Refused.ensures ∙ ap (λ file. verdict_on file most_rows) c.decode_48.ensures.value)) (c.refused.ensures s) in
     rw is (converted_keeps s)
 
 pub returns-in-Passed-clause-value : goal.returns-in-Passed-clause-value
@@ -36,5 +36,5 @@ unfolding converted
 returns-in-Passed-clause-keeps c =
     let s = c.args.survey.now in
     let is : c.written.result ≡ converted s =
-        rw (sym (c.in-Passed.ensures ∙ ap (λ file. verdict_on file most_rows) c.decode_48.ensures.value)) c.written.ensures in
+    rw (sym (c.in-Passed.ensures ∙ ap (λ file. verdict_on file most_rows) c.decode_48.ensures.value)) c.written.ensures in
     rw is (converted_keeps s)

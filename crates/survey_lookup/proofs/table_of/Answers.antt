@@ -1,5 +1,5 @@
 -- `survey_lookup::table_of` meets its contract: by the verdict on the file and its rows. Assumes nothing.
-use Rattle.std.proofs.Common.{◌≡◌, sym, ap, List, ℕ}
+use Rattle.std.proofs.Common.{◌≡◌, ap, List, ℕ}
 use Rattle.refusal.specs.declared.Verdict.{Verdict}
 use Rattle.survey_lookup.specs.declared.Tabled.{Tabled}
 use Rattle.survey_lookup.specs.Tabled.{no_rows, tabled}

@@ -1,10 +1,9 @@
 -- `survey::judge::judged` meets its contract: a test that passes leaves the tests behind it, and each return is at the first that does not. What passed before a test is what its code needs. Assumes nothing.
 use Rattle.std.proofs.Common.{◌≡◌, sym, ◌∙◌, ap, List, ◌++◌, ℕ}
-use Rattle.refusal.specs.declared.Verdict.TheVariants.{Passed}
 use Rattle.refusal.specs.Test.{verdict, first_refusal}
 use Rattle.refusal.specs.TestLaws.{verdict_append}
 use Rattle.file.specs.declared.format.Format.{Format}
-use Rattle.form.specs.PlacedLaws.{Placed, size_fits, placed_file}
+use Rattle.form.specs.PlacedLaws.{placed_file}
 use Rattle.form.specs.Tests.{size_tests, layout_tests}
 use Rattle.readings.specs.Tests.{number_tests}
 use Rattle.dimensions.specs.Tests.{dimension_tests}
@@ -35,14 +34,13 @@ returns-in-Refused-numbers c =
     rw (behind c.args.f c.args.s.now, ← c.in_default.ensures, ← c.in_default-placed.ensures, ← c.in-Refused-numbers.ensures)
 
 pub measured-requires : goal.measured-requires
-measured-requires c =
-    (
-      c.requires,
-      record {
-        placed = placed_file c.args.f c.args.s.now c.requires (sym c.in_default.ensures) (sym c.in_default-placed.ensures);
-        numbers = sym c.in_default-numbers.ensures;
-      }
-    )
+measured-requires c = (
+  c.requires,
+  record {
+    placed = placed_file c.args.f c.args.s.now c.requires (sym c.in_default.ensures) (sym c.in_default-placed.ensures);
+    numbers = sym c.in_default-numbers.ensures;
+  },
+)
 
 pub returns : goal.returns
 returns c =
