@@ -1,6 +1,7 @@
 #!/usr/bin/env bash
-# Builds what is run outside Rattle and puts it where the other checks look for it: target/bin/tanktable, tanklookup and tankconvert, and
-# target/staticlib/libcapi.a, the archive of the C interface. rt proves what it builds, and begins with what it has proved before.
+# Puts what is run outside Rattle where the other checks look for it: target/bin/tanktable, tanklookup and tankconvert, and
+# target/staticlib/libcapi.a, the archive of the C interface. What `rt ci` has left of today's sources is taken as it is; else rt proves first,
+# which takes a while.
 set -euo pipefail
 cd "$(dirname "$0")/.."
 mkdir -p target/bin target/staticlib
@@ -15,17 +16,35 @@ quietly() {
     }
 }
 
+# Whether no source is younger than a file that was made of them.
+is_fresh() {
+    [ -f "$1" ] && [ -z "$(find crates crates.txt -name out -prune -o -type f -newer "$1" \( -name '*.rt' -o -name '*.antt' -o -name crates.txt \) -print -quit)" ]
+}
+
 # A program is left in out/ by a run; with --help it reads nothing.
 program() {
-    (cd "crates/$1" && rm -f "out/$1" && rt run -- --help)
+    is_fresh "crates/$1/out/$1" || (cd "crates/$1" && rm -f "out/$1" && rt run -- --help)
     cp "crates/$1/out/$1" target/bin/
 }
 
+# `rt ci` proves the archive's room and keeps no archive. The libraries that it left have no stamp, and `rt lib` would prove them all anew; so
+# rattle builds over them, and proves the room itself once more.
 archive() {
-    (cd crates/capi_c && rt lib)
-    cp crates/capi_c/out/libcapi_c.a target/staticlib/libcapi.a
+    local kit name words=()
+    kit=$(dirname "$(rt doc)")
+    if is_fresh crates/capi/out/rlib/capi.rlib/format && [ ! -f crates/capi/out/rlib/stamp ]; then
+        for name in core std; do words+=(--extern "$name=$kit/rlibs/$name.rlib"); done
+        for name in $(sed -n 's/^capi_c staticlib: *//p' crates.txt); do words+=(--extern "$name=crates/$name/out/rlib/$name.rlib"); done
+        for name in crates/*/out/rlib; do words+=(-L "dependency=$name"); done
+        "$kit/bin/rattle" build --crate-name capi_c --crate-type staticlib crates/capi_c/src/lib.rt "${words[@]}" -L "dependency=$kit/rlibs" \
+            --antt-project "$kit/rattle/logic/antt-project.json" --logic-built "$kit/logic_built" --toolchain "$kit/toolchain" \
+            --links capi_c= -o target/staticlib/libcapi.a
+    else
+        (cd crates/capi_c && rt lib)
+        cp crates/capi_c/out/libcapi_c.a target/staticlib/libcapi.a
+    fi
 }
 
 for name in tanktable tanklookup tankconvert; do quietly program "$name"; done
 quietly archive
-ls -l target/bin target/staticlib
+ls target/bin target/staticlib

@@ -21,10 +21,10 @@ use Rattle.lookup.specs.declared.height.HeightAnswer.{HeightAnswer}
 use Rattle.lookup.specs.declared.height.HeightAnswer.TheVariants as height
 use Rattle.text.specs.Put.{overwritten}
 use Rattle.sentences.specs.Sentences.{of_old_header, words, words_size}
-use Rattle.answers.specs.declared.numbers.TableNumbers.{TableNumbers}
-use Rattle.answers.specs.declared.numbers.LitresNumbers.{LitresNumbers}
-use Rattle.answers.specs.declared.numbers.HeightNumbers.{HeightNumbers}
-use Rattle.answers.specs.declared.numbers.ConvertedNumbers.{ConvertedNumbers}
+use Rattle.answers.specs.declared.plain_numbers.TableNumbers.{TableNumbers}
+use Rattle.answers.specs.declared.plain_numbers.LitresNumbers.{LitresNumbers}
+use Rattle.answers.specs.declared.plain_numbers.HeightNumbers.{HeightNumbers}
+use Rattle.answers.specs.declared.plain_numbers.ConvertedNumbers.{ConvertedNumbers}
 use Rattle.answers.specs.declared.words.Words.{Words}
 
 abbrev pub table_numbers : Made → TableNumbers

@@ -16,8 +16,8 @@ use Rattle.lookup.specs.Litres.{litres}
 use Rattle.lookup.specs.Height.{height_for}
 use Rattle.lookup.specs.Answer.{litres_by, litres_answer, ReadOff, TooHigh, height_by, height_answer, Reached, TooMuch}
 use Rattle.lookup.proofs.AnswerLaws.{above_limit, read_off_only, reached_only}
-use Rattle.answers.specs.declared.numbers.LitresNumbers.{LitresNumbers}
-use Rattle.answers.specs.declared.numbers.HeightNumbers.{HeightNumbers}
+use Rattle.answers.specs.declared.plain_numbers.LitresNumbers.{LitresNumbers}
+use Rattle.answers.specs.declared.plain_numbers.HeightNumbers.{HeightNumbers}
 use Rattle.answers.specs.Numbers.{table_numbers, litres_numbers, height_numbers, file_numbers, converted_numbers}
 use Rattle.answers.specs.Promises.{EveryCounted, OnTableAnswered, LowestAnswered, ConvertedKeeps}
 use Rattle.answers.specs.RefusalLaws.{litres_answered, height_answered, convert_answered}

@@ -10,9 +10,9 @@ use Rattle.survey.specs.declared.decode.Survey.{Survey}
 use Rattle.table.specs.Answer.{verdict_on, made, table_left}
 use Rattle.lookup.specs.Litres.{OnTable}
 use Rattle.lookup.specs.Height.{Lowest}
-use Rattle.answers.specs.declared.numbers.LitresNumbers.{LitresNumbers}
-use Rattle.answers.specs.declared.numbers.HeightNumbers.{HeightNumbers}
-use Rattle.answers.specs.declared.numbers.ConvertedNumbers.{ConvertedNumbers}
+use Rattle.answers.specs.declared.plain_numbers.LitresNumbers.{LitresNumbers}
+use Rattle.answers.specs.declared.plain_numbers.HeightNumbers.{HeightNumbers}
+use Rattle.answers.specs.declared.plain_numbers.ConvertedNumbers.{ConvertedNumbers}
 
 abbrev pub EveryCounted : (Survey → List ℕ → ℕ → Type 0) → Survey → ℕ → List ℕ → Type 0
 EveryCounted claim v rows table = (i : ℕ) → i < rows → claim v table i

@@ -1,5 +1,5 @@
 // The library's answers as plain numbers, and its refusals in words, for programs in C.
 #![tactic(auto)]
 
-pub mod numbers;
+pub mod plain_numbers;
 pub mod words;

@@ -1,4 +1,4 @@
-// The calls that C programs make, under names that begin with milechime_: the table of a survey, both lookups, an old survey in today's format,
+// The calls that C programs make (`capi_c` exports them), under names that begin with milechime_: the table of a survey, both lookups, an old survey in today's format,
 // and a refusal in words, on numbers and slices alone. A slice is a pointer and a length to C. Nothing is asked of a caller but that these are
 // what they say.
 #![tactic(auto)]
@@ -16,7 +16,7 @@ ghost use Rattle.sentences.specs.Sentences.{words_size};
 ghost use Rattle.answers.specs.Numbers.{table_numbers, litres_numbers, height_numbers, converted_numbers, words_of, conversion_words};
 ghost use Rattle.answers.specs.Promises.{EveryCounted, OnTableAnswered, LowestAnswered, ConvertedKeeps};
 
-use answers::numbers::{
+use answers::plain_numbers::{
     ConvertedNumbers, HeightNumbers, LitresNumbers, TableNumbers, converted_numbers,
     height_numbers, litres_numbers, table_numbers,
 };
@@ -34,8 +34,7 @@ use table::judge::judged;
 use table::make::make_table;
 
 // The table of a survey, from the start of the lent table; a refusal leaves it as it was.
-#[unsafe(no_mangle)]
-pub extern "C" fn milechime_table(survey: &[u8], table: &mut [u32]) -> TableNumbers
+pub fn milechime_table(survey: &[u8], table: &mut [u32]) -> TableNumbers
     ensures value { result ≡ table_numbers (made (decoded survey.now) (length table.old)) }
     ensures table_after { table.new ≡ table_left (decoded survey.now) table.old }
     ensures net_rows { EveryCounted NetRowAt (decoded survey.now).survey result.rows table.new }
@@ -45,8 +44,7 @@ pub extern "C" fn milechime_table(survey: &[u8], table: &mut [u32]) -> TableNumb
 }
 
 // The volume at a dip height.
-#[unsafe(no_mangle)]
-pub extern "C" fn milechime_litres(dh: u32, step: u32, table: &[u32], height: u32) -> LitresNumbers
+pub fn milechime_litres(dh: u32, step: u32, table: &[u32], height: u32) -> LitresNumbers
     ensures value { result ≡ litres_numbers (litres_answer dh step table.now height) }
     ensures on_table_answered { OnTableAnswered dh step table.now height result }
     ensures exactly { Exactly (result.refusal ≡ 12) (TooHigh dh step table.now height) }
@@ -55,8 +53,7 @@ pub extern "C" fn milechime_litres(dh: u32, step: u32, table: &[u32], height: u3
 }
 
 // The lowest dip height for a volume.
-#[unsafe(no_mangle)]
-pub extern "C" fn milechime_height(dh: u32, step: u32, table: &[u32], volume: u32) -> HeightNumbers
+pub fn milechime_height(dh: u32, step: u32, table: &[u32], volume: u32) -> HeightNumbers
     ensures value { result ≡ height_numbers (height_answer dh step table.now volume) }
     ensures lowest_answered { LowestAnswered dh step table.now volume result }
     ensures exactly { Exactly (result.refusal ≡ 13) (TooMuch dh step table.now volume) }
@@ -65,8 +62,7 @@ pub extern "C" fn milechime_height(dh: u32, step: u32, table: &[u32], volume: u3
 }
 
 // An old survey, with a header of 48 bytes, in today's format; its table stays.
-#[unsafe(no_mangle)]
-pub extern "C" fn milechime_convert_48(survey: &[u8]) -> ConvertedNumbers
+pub fn milechime_convert_48(survey: &[u8]) -> ConvertedNumbers
     ensures value { result ≡ converted_numbers (converted survey.now) }
     ensures converted_keeps { ConvertedKeeps survey.now result }
     ensures length_le_most_bytes { result.length ≤ most_bytes }
@@ -75,8 +71,7 @@ pub extern "C" fn milechime_convert_48(survey: &[u8]) -> ConvertedNumbers
 }
 
 // The words of the refusal that making a table with so much room would give; none where nothing is refused.
-#[unsafe(no_mangle)]
-pub extern "C" fn milechime_words(survey: &[u8], table_length: usize) -> Words
+pub fn milechime_words(survey: &[u8], table_length: usize) -> Words
     ensures value { result ≡ words_of (verdict_on (decoded survey.now) table_length) }
     ensures length_lt_words_size { result.length < words_size }
     ensures exactly { Exactly (result.length ≡ 0) ((table_numbers (made (decoded survey.now) table_length)).refusal ≡ 0) }
@@ -86,8 +81,7 @@ pub extern "C" fn milechime_words(survey: &[u8], table_length: usize) -> Words
 
 // .. of the refusal that converting an old survey, whose header has so many bytes, would give. No length but 48 can be converted from, and
 // words say so.
-#[unsafe(no_mangle)]
-pub extern "C" fn milechime_convert_words(survey: &[u8], header: u32) -> Words
+pub fn milechime_convert_words(survey: &[u8], header: u32) -> Words
     ensures value { result ≡ conversion_words header survey.now }
     ensures length_lt_words_size { result.length < words_size }
     ensures exactly { Exactly (result.length ≡ 0) ((header ≡ format48.header) × ((converted_numbers (converted survey.now)).refusal ≡ 0)) }

@@ -2,6 +2,6 @@
 // asked for.
 #![tactic(auto)]
 
+pub mod capacity_table;
 pub mod conversion;
 pub mod lookups;
-pub mod table;

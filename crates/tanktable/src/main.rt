@@ -2,7 +2,7 @@
 #![tactic(auto)]
 
 use arguments::{SURVEY_ROOM, own_words, read_survey, tells_use, write_said};
-use report::table::table_said;
+use report::capacity_table::table_said;
 use said::{ERR_SIZE, OUT_SIZE};
 
 fn print_table(rt: &HostRuntime, survey: &[u8]) {

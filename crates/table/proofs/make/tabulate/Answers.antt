@@ -1,5 +1,5 @@
 -- `table::make::tabulate` meets its contract: the answer of the verdict, and what holds of every row of it. Assumes nothing.
-use Rattle.std.proofs.Common.{◌≡◌, length, ◌∙◌, ap}
+use Rattle.std.proofs.Common.{◌∙◌, ap}
 use Rattle.table.specs.Answer.{answer_by, made}
 use Rattle.table.proofs.Condition3Laws.{net_rows_left, condition3_left}
 use Rattle.table.proofs.make.tabulate.Goals as goal

@@ -1,6 +1,6 @@
--- `report::table::table_said` meets its contract: the table is whole where it is not refused. Assumes nothing.
+-- `report::capacity_table::table_said` meets its contract: the table is whole where it is not refused. Assumes nothing.
 use Rattle.survey_lookup.specs.TabledLaws.{ready_file}
-use Rattle.report.proofs.table.table_said.Goals as goal
+use Rattle.report.proofs.capacity_table.table_said.Goals as goal
 
 pub rows_said-requires : goal.rows_said-requires
 rows_said-requires c passed =

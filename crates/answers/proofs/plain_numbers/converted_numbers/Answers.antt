@@ -1,7 +1,7 @@
--- `answers::numbers::converted_numbers` meets its contract: a refusal is the case of the definition that its verdict leads to. Assumes nothing.
+-- `answers::plain_numbers::converted_numbers` meets its contract: a refusal is the case of the definition that its verdict leads to. Assumes nothing.
 use Rattle.std.proofs.Common.{sym, ap}
 use Rattle.answers.specs.Numbers.{file_numbers}
-use Rattle.answers.proofs.numbers.converted_numbers.Goals as goal
+use Rattle.answers.proofs.plain_numbers.converted_numbers.Goals as goal
 
 pub returns-in-Refused : goal.returns-in-Refused
 returns-in-Refused c =
