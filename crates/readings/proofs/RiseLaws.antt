@@ -1,7 +1,8 @@
 -- No reading is shorter than the tape rise that it loses: of a file whose numbers are within their limits as they stand, nothing is cut at 0 in
 -- a corrected reading, and each with the rise is its reading again. Assumes nothing.
 use Rattle.std.specs.Prelude.{ℕ, ◌+◌, ◌≤◌, ◌<◌, ◌≡◌, List, ltb}
-use Rattle.std.proofs.Common.{arith, ltb-true}
+use native.Mathlib.Omega.{arith}
+use Rattle.std.proofs.Common.{ltb-true}
 use Rattle.laws.specs.BoolLaws.{by_test}
 use Rattle.refusal.specs.TestLaws.{passed_all, within_pass}
 use Rattle.seams.specs.Seam.{no_seam}
