@@ -85,7 +85,8 @@ def steps(body):
                 if name.startswith("Op") and name != "Opd":
                     operations.add(inner[0] if isinstance(inner[0], str) else next(iter(inner[0])))
                 if name == "Call":
-                    calls.append(inner[0]["Direct"])
+                    # a call by a bound or a pointer names no function: where a walk makes one, it is looked for in vain
+                    calls.append(inner[0]["Fn"][0] if "Fn" in inner[0] else json.dumps(inner[0]))
                 left.append(inner)
     return operations, calls
 
