@@ -10,8 +10,8 @@
 . "$(dirname "$0")/failures.sh"
 
 # The functions below look at the folder that they stand in: crates.txt, and the sources without their comments.
-listed() { sed -n "s/^$1: *//p" crates.txt; }
-crates() { sed -n 's/^\([a-z_]*\):.*/\1/p' crates.txt; }
+listed() { sed -nE "s/^$1( staticlib)?: *//p" crates.txt; }
+crates() { sed -nE 's/^([a-z_]+)( staticlib)?:.*/\1/p' crates.txt; }
 
 # crates with code that can name a shell height
 near() {

@@ -6,13 +6,13 @@
 
 # The rooms that a line of crates.txt, or a row of the table, names. The kit's crates are left out.
 known() { tr ',' ' ' | tr -s ' ' '\n' | grep -vxE '|check|io' | sort | paste -sd' '; }
-listed() { sed -n "s/^$1: *//p" crates.txt | known; }
+listed() { sed -nE "s/^$1( staticlib)?: *//p" crates.txt | known; }
 drawn() { awk -F'|' -v room="\`$1\`" '{ split($2, names, ","); for (n in names) { gsub(/ /, "", names[n]); if (names[n] == room) print $4 } }' "$2" | known; }
 
 # rooms whose 'knows' column differs from crates.txt, in a copy of the architecture page
 differing() {
     local room
-    for room in $(sed -n 's/^\([a-z_]*\):.*/\1/p' crates.txt); do
+    for room in $(sed -nE 's/^([a-z_]+)( staticlib)?:.*/\1/p' crates.txt); do
         [ "$(listed "$room")" = "$(drawn "$room" "$1")" ] || echo "$room"
     done
 }
@@ -23,7 +23,7 @@ bytes_seen() {
     grep -rnE '^use (file|form|records|numbers|readings|dimensions)::' "$@"
 }
 
-rooms=$(grep -c '^[a-z_]*:' crates.txt)
+rooms=$(grep -cE '^[a-z_]+( staticlib)?:' crates.txt)
 files=$(find crates -name '*.rt' -o -name '*.antt' | wc -l)
 found=$(differing docs/ARCHITECTURE.md)
 [ -z "$found" ] || fail "docs/ARCHITECTURE.md and crates.txt differ in: $found"

@@ -2,7 +2,7 @@
 use std::thread;
 use std::time::{Clock, Duration};
 
-// Ten milliseconds, or less if a signal comes.
+// Ten milliseconds; a signal does not cut them short.
 pub(crate) fn pause(clock: &impl Clock) {
     thread::sleep(clock, Duration::from_millis(10));
 }
