@@ -1,9 +1,10 @@
 #!/usr/bin/env bash
 # Puts what is run outside Rattle where the other checks look for it: target/bin/tanktable, tanklookup and tankconvert, and
-# target/staticlib/libcapi.a, the archive of the C interface. What `rt ci` has left of today's sources is taken as it is; else rt proves first,
-# which takes a while.
+# target/staticlib/libcapi.a, the archive of the C interface. Right behind an `rt ci` of the same sources, and with --from-ci, what that has left is
+# taken as it is: it cleans out/ before it begins. Else rt proves first, which takes a while.
 set -euo pipefail
 cd "$(dirname "$0")/.."
+from_ci=${1:-}
 mkdir -p target/bin target/staticlib
 
 # Prints what a command says only if it fails.
@@ -16,23 +17,18 @@ quietly() {
     }
 }
 
-# Whether no source is younger than a file that was made of them.
-is_fresh() {
-    [ -f "$1" ] && [ -z "$(find crates crates.txt -name out -prune -o -type f -newer "$1" \( -name '*.rt' -o -name '*.antt' -o -name crates.txt \) -print -quit)" ]
-}
-
 # A program is left in out/ by a run; with --help it reads nothing.
 program() {
-    is_fresh "crates/$1/out/$1" || (cd "crates/$1" && rm -f "out/$1" && rt run -- --help)
+    [ "$from_ci" = --from-ci ] || (cd "crates/$1" && rm -f "out/$1" && rt run -- --help)
     cp "crates/$1/out/$1" target/bin/
 }
 
 # `rt ci` proves the archive's room and keeps no archive. The libraries that it left have no stamp, and `rt lib` would prove them all anew; so
-# rattle builds over them, and proves the room itself once more.
+# rattle builds over them, and proves the room itself once more. A stamp says that they are those of an earlier check, which rt brings up to date.
 archive() {
     local kit name words=()
     kit=$(dirname "$(rt doc)")
-    if is_fresh crates/capi/out/rlib/capi.rlib/format && [ ! -f crates/capi/out/rlib/stamp ]; then
+    if [ "$from_ci" = --from-ci ] && [ ! -f crates/capi/out/rlib/stamp ]; then
         for name in core std; do words+=(--extern "$name=$kit/rlibs/$name.rlib"); done
         for name in $(sed -n 's/^capi_c staticlib: *//p' crates.txt); do words+=(--extern "$name=crates/$name/out/rlib/$name.rlib"); done
         for name in crates/*/out/rlib; do words+=(-L "dependency=$name"); done
