@@ -1,11 +1,10 @@
 -- Each answer as plain numbers: the refusal's number and place, both 0 where nothing is refused, and the figures, all 0 in a
 -- refusal; and a refusal in words. Assumes nothing.
-use Rattle.std.specs.Prelude.{ℕ, List, eqb, length, replicate}
+use Rattle.lookup.specs.Answer.{LitresAnswer, HeightAnswer}
+use Rattle.std.specs.Prelude.{ℕ, List, eqb, length, replicate, Ok, Err}
 use Rattle.laws.specs.Order.{pick}
 use Rattle.refusal.specs.declared.About.{About}
-use Rattle.refusal.specs.declared.Verdict.{Verdict}
-use Rattle.refusal.specs.declared.Verdict.TheVariants as verdict
-use Rattle.refusal.specs.Test.{about}
+use Rattle.refusal.specs.Test.{about, Verdict}
 use Rattle.measure.specs.Quantity.{diameter_units, dip_units, volume_units}
 use Rattle.schedule.specs.Rows.{most_rows}
 use Rattle.file.specs.Format.{format48}
@@ -15,10 +14,6 @@ use Rattle.table.specs.declared.make.Made.TheVariants as made
 use Rattle.table.specs.Answer.{verdict_on}
 use Rattle.rewrite.specs.Rewritten.{most_bytes}
 use Rattle.convert.specs.declared.Converted.{Converted}
-use Rattle.lookup.specs.declared.litres.LitresAnswer.{LitresAnswer}
-use Rattle.lookup.specs.declared.litres.LitresAnswer.TheVariants as litres
-use Rattle.lookup.specs.declared.height.HeightAnswer.{HeightAnswer}
-use Rattle.lookup.specs.declared.height.HeightAnswer.TheVariants as height
 use Rattle.text.specs.Put.{overwritten}
 use Rattle.sentences.specs.Sentences.{of_old_header, words, words_size}
 use Rattle.answers.specs.declared.plain_numbers.TableNumbers.{TableNumbers}
@@ -32,17 +27,17 @@ table_numbers (made.Table d1 d2 rows) = record { refusal = 0; place = 0; d1 = di
 table_numbers (made.Refused number place) = record { refusal = number; place = place; d1 = 0; d2 = 0; rows = 0 }
 
 abbrev pub litres_numbers : LitresAnswer → LitresNumbers
-litres_numbers (litres.Litres v) = record { refusal = 0; place = 0; volume = volume_units v }
-litres_numbers (litres.Refused r) = record { refusal = r.number; place = r.place; volume = 0 }
+litres_numbers (Ok v) = record { refusal = 0; place = 0; volume = volume_units v }
+litres_numbers (Err r) = record { refusal = r.number; place = r.place; volume = 0 }
 
 abbrev pub height_numbers : HeightAnswer → HeightNumbers
-height_numbers (height.Height h) = record { refusal = 0; place = 0; height = dip_units h }
-height_numbers (height.Refused r) = record { refusal = r.number; place = r.place; height = 0 }
+height_numbers (Ok h) = record { refusal = 0; place = 0; height = dip_units h }
+height_numbers (Err r) = record { refusal = r.number; place = r.place; height = 0 }
 
 -- a converted file: how many bytes, and the memory at whose front they stand
 abbrev pub file_numbers : Verdict → ℕ → List ℕ → ConvertedNumbers
-file_numbers verdict.Passed length file = record { refusal = 0; place = 0; length = length; file = file }
-file_numbers (verdict.Refused r) length file = record { refusal = r.number; place = r.place; length = 0; file = replicate most_bytes 0 }
+file_numbers (Ok tt) length file = record { refusal = 0; place = 0; length = length; file = file }
+file_numbers (Err r) length file = record { refusal = r.number; place = r.place; length = 0; file = replicate most_bytes 0 }
 
 abbrev pub converted_numbers : Converted → ConvertedNumbers
 converted_numbers c = file_numbers c.verdict c.length c.file
@@ -53,8 +48,8 @@ words_about a = record { length = length (words a); text = overwritten (words a)
 
 -- the words of a verdict: none where nothing is refused
 abbrev pub words_of : Verdict → Words
-words_of verdict.Passed = record { length = 0; text = replicate words_size 0 }
-words_of (verdict.Refused r) = words_about r.about
+words_of (Ok tt) = record { length = 0; text = replicate words_size 0 }
+words_of (Err r) = words_about r.about
 
 -- .. of converting a file whose header has so many bytes: there is one such length, and words for any other, so that nobody takes none for a
 -- file that could be converted

@@ -1,10 +1,9 @@
 -- The library's own statements say what the plain numbers promise. Assumes nothing.
-use Rattle.std.specs.Prelude.{ℕ, ◌≤◌, ◌<◌, ◌≡◌, true, List}
+use Rattle.refusal.specs.Test.{Verdict}
+use Rattle.std.specs.Prelude.{ℕ, ◌≤◌, ◌<◌, ◌≡◌, true, List, Ok, Err}
 use Rattle.std.proofs.Math.Path.{refl}
 use Rattle.std.proofs.Common.{arith}
 use Rattle.laws.specs.Exactly.{Exactly}
-use Rattle.refusal.specs.declared.Verdict.{Verdict}
-use Rattle.refusal.specs.declared.Verdict.TheVariants.{Passed, Refused}
 use Rattle.survey.specs.declared.decode.Decoded.{Decoded}
 use Rattle.survey.specs.declared.decode.Survey.{Survey}
 use Rattle.rewrite.specs.Rewritten.{most_bytes}
@@ -29,8 +28,8 @@ counted claim file cells table = by_verdict (verdict_on file cells)
   where
     by_verdict : (w : Verdict) → EveryRow claim file.survey (answer_by w file.survey) table
         → EveryCounted claim file.survey (table_numbers (answer_by w file.survey)).rows table
-    by_verdict Passed holds = holds
-    by_verdict (Refused r) holds = λ i l. absurd (omega arith)
+    by_verdict (Ok tt) holds = holds
+    by_verdict (Err r) holds = λ i l. absurd (omega arith)
 
 module _ (dh step : ℕ) (table : List ℕ) where
   pub on_table_answered : (h : ℕ) → ReadOff dh step table h (litres_answer dh step table h)
@@ -74,8 +73,8 @@ converted_keeps s told e =
     rw passed (told passed)
 
 pub numbers_short : (w : Verdict) (n : ℕ) (file : List ℕ) → n ≤ most_bytes → (file_numbers w n file).length ≤ most_bytes
-numbers_short Passed n file short = short
-numbers_short (Refused r) n file short = omega arith
+numbers_short (Ok tt) n file short = short
+numbers_short (Err r) n file short = omega arith
 
 -- a claim about every row counted is one about each
 pub each_counted : (claim : Survey → List ℕ → ℕ → Type 0) (v : Survey) (rows : ℕ) (table : List ℕ) → EveryCounted claim v rows table

@@ -1,9 +1,8 @@
 -- What an answer in plain numbers promises, said outright: a claim about a row, of every row that it counts (a refusal counts none); of a
 -- volume that was answered, that it is on the table; of a height that was answered, that it is the lowest; and of a file that was converted,
 -- that its table is the old file's. Assumes nothing.
-use Rattle.std.specs.Prelude.{ℕ, ◌<◌, ◌≡◌, List, length, take}
+use Rattle.std.specs.Prelude.{ℕ, ◌<◌, ◌≡◌, List, length, take, Ok}
 use Rattle.schedule.specs.Rows.{most_rows}
-use Rattle.refusal.specs.declared.Verdict.TheVariants.{Passed}
 use Rattle.file.specs.Format.{format48}
 use Rattle.survey.specs.Survey.{decoded_as, decoded}
 use Rattle.survey.specs.declared.decode.Survey.{Survey}
@@ -32,6 +31,6 @@ file_in r = take r.length r.file
 abbrev pub ConvertedKeeps : List ℕ → ConvertedNumbers → Type 0
 ConvertedKeeps s r =
     r.refusal ≡ 0
-    → (verdict_on (decoded (file_in r)) most_rows ≡ Passed)
+    → (verdict_on (decoded (file_in r)) most_rows ≡ Ok tt)
     × ((table : List ℕ) → (made (decoded (file_in r)) (length table) ≡ made (decoded_as format48 s) (length table))
     × (table_left (decoded (file_in r)) table ≡ table_left (decoded_as format48 s) table))

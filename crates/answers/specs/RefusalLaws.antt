@@ -1,13 +1,11 @@
 -- The number of a refusal alone tells a C program whether it was answered: an answer whose number is not in use, as 0 is not, met no refusal.
 -- And no answer has refusal 10, which is retired. Assumes nothing.
-use Rattle.std.specs.Prelude.{ℕ, ◌≡◌, true, false, List}
+use Rattle.std.specs.Prelude.{ℕ, ◌≡◌, true, false, List, Ok, Err}
 use Rattle.std.proofs.Math.Path.{refl, ap}
 use Rattle.std.proofs.Common.{arith}
 use Rattle.schedule.specs.Rows.{most_rows}
 use Rattle.refusal.specs.declared.Refusal.{Refusal}
-use Rattle.refusal.specs.declared.Verdict.{Verdict}
-use Rattle.refusal.specs.declared.Verdict.TheVariants.{Passed, Refused}
-use Rattle.refusal.specs.Test.{Test, verdict, in_use}
+use Rattle.refusal.specs.Test.{Test, verdict, in_use, Verdict}
 use Rattle.sentences.specs.Sentences.{told}
 use Rattle.sentences.specs.KnownLaws.{all_known}
 use Rattle.sentences.proofs.KnownLaws.{each_known, verdict_known, unused_is_passed}
@@ -26,33 +24,33 @@ use Rattle.answers.specs.Numbers.{table_numbers, litres_numbers, height_numbers,
 module _ (n : ℕ) (unused : in_use n ≡ false) where
   -- `number` is what an answer made of a verdict tells: of a refusal, its number. The verdict is on a file and its rows, or on tests with numbers
   -- in use
-  module _ (number : Verdict → ℕ) (passed_on : (r : Refusal) → number (Refused r) ≡ r.number) where
-    rows_answered : (f : Format) (s : List ℕ) (cells : ℕ) → number (verdict_on (decoded_as f s) cells) ≡ n → verdict_on (decoded_as f s) cells ≡ Passed
+  module _ (number : Verdict → ℕ) (passed_on : (r : Refusal) → number (Err r) ≡ r.number) where
+    rows_answered : (f : Format) (s : List ℕ) (cells : ℕ) → number (verdict_on (decoded_as f s) cells) ≡ n → verdict_on (decoded_as f s) cells ≡ Ok tt
     rows_answered f s cells = unused_is_passed number passed_on n unused (verdict_on (decoded_as f s) cells) (refusal_known f s cells)
 
-    tests_answered : (ts : List Test) → all_known ts ≡ true → number (verdict ts) ≡ n → verdict ts ≡ Passed
+    tests_answered : (ts : List Test) → all_known ts ≡ true → number (verdict ts) ≡ n → verdict ts ≡ Ok tt
     tests_answered ts all = unused_is_passed number passed_on n unused (verdict ts) (verdict_known ts (each_known ts all))
 
-  pub table_answered : (s : List ℕ) (cells : ℕ) → (table_numbers (made (decoded s) cells)).refusal ≡ n → verdict_on (decoded s) cells ≡ Passed
+  pub table_answered : (s : List ℕ) (cells : ℕ) → (table_numbers (made (decoded s) cells)).refusal ≡ n → verdict_on (decoded s) cells ≡ Ok tt
   unfolding made decoded
   table_answered s cells = rows_answered (λ w. (table_numbers (answer_by w (decoded s).survey)).refusal) (λ r. refl) today s cells
 
-  pub convert_accepted : (s : List ℕ) → (converted_numbers (converted s)).refusal ≡ n → verdict_on (decoded_as format48 s) most_rows ≡ Passed
+  pub convert_accepted : (s : List ℕ) → (converted_numbers (converted s)).refusal ≡ n → verdict_on (decoded_as format48 s) most_rows ≡ Ok tt
   unfolding converted
   convert_accepted s = rows_answered (λ w. (converted_numbers (converted_by w s)).refusal) (λ r. refl) format48 s most_rows
 
-  pub convert_answered : (s : List ℕ) → (converted_numbers (converted s)).refusal ≡ n → (converted s).verdict ≡ Passed
+  pub convert_answered : (s : List ℕ) → (converted_numbers (converted s)).refusal ≡ n → (converted s).verdict ≡ Ok tt
   unfolding converted
   convert_answered s e = ap (λ w. (converted_by w s).verdict) (convert_accepted s e)
 
   pub litres_answered : (dh step : ℕ) (rows : List ℕ) (h : ℕ) → (litres_numbers (litres_answer dh step rows h)).refusal ≡ n
-      → verdict (litres_tests dh step rows h) ≡ Passed
+      → verdict (litres_tests dh step rows h) ≡ Ok tt
   unfolding litres_answer told
   litres_answered dh step rows h =
       tests_answered (λ v. (litres_numbers (litres_by v (litres dh step rows h))).refusal) (λ r. refl) (litres_tests dh step rows h) refl
 
   pub height_answered : (dh step : ℕ) (rows : List ℕ) (w : ℕ) → (height_numbers (height_answer dh step rows w)).refusal ≡ n
-      → verdict (height_tests dh step rows w) ≡ Passed
+      → verdict (height_tests dh step rows w) ≡ Ok tt
   unfolding height_answer told
   height_answered dh step rows w =
       tests_answered (λ v. (height_numbers (height_by v (height_for dh step rows w))).refusal) (λ r. refl) (height_tests dh step rows w) refl

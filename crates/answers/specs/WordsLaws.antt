@@ -1,13 +1,12 @@
 -- Words come exactly when there is a refusal, and are about the test that gave it. Assumes nothing.
-use Rattle.std.specs.Prelude.{ℕ, ◌≡◌, refl, List, [], ◌∷◌, eqb, length}
+use Rattle.refusal.specs.Test.{Verdict}
+use Rattle.std.specs.Prelude.{ℕ, ◌≡◌, refl, List, [], ◌∷◌, eqb, length, Ok, Err}
 use Rattle.std.proofs.Common.{sym, ◌∙◌, ap, arith, eqb-true, eq-eqb}
 use Rattle.laws.specs.BoolLaws.{by_test, true_not_false}
 use Rattle.laws.specs.Exactly.{Exactly}
 use Rattle.laws.specs.ExactlyLaws.{exactly_when}
 use Rattle.schedule.specs.Rows.{most_rows}
 use Rattle.refusal.specs.declared.Refusal.{Refusal}
-use Rattle.refusal.specs.declared.Verdict.{Verdict}
-use Rattle.refusal.specs.declared.Verdict.TheVariants.{Passed, Refused}
 use Rattle.refusal.specs.TestLaws.{refused_not_passed}
 use Rattle.sentences.specs.Sentences.{told, words}
 use Rattle.sentences.proofs.SentencesLaws.{told_words}
@@ -29,9 +28,9 @@ no_words [] e = refl
 no_words (w ∷ ws) e = absurd (omega arith)
 
 -- a verdict has words exactly when it refuses
-pub words_exactly : (v : Verdict) → KnownIn v → Exactly ((words_of v).length ≡ 0) (v ≡ Passed)
-words_exactly Passed known = record { only_when = λ e. refl; whenever = λ e. refl }
-words_exactly (Refused r) known =
+pub words_exactly : (v : Verdict) → KnownIn v → Exactly ((words_of v).length ≡ 0) (v ≡ Ok tt)
+words_exactly (Ok tt) known = record { only_when = λ e. refl; whenever = λ e. refl }
+words_exactly (Err r) known =
     record { only_when = λ e. absurd (known_words r known (no_words (words r.about) e)); whenever = λ e. absurd (refused_not_passed r e) }
 
 -- so the words of making a table are empty exactly when its answer has no refusal
@@ -56,7 +55,7 @@ conversion_words_law header s =
     }))
 
 -- the words of a refusal are about the first test that fails, of all tests in their order
-pub words_of_its_test : (f : Format) (s : List ℕ) (cells : ℕ) (r : Refusal) (e : verdict_on (decoded_as f s) cells ≡ Refused r)
+pub words_of_its_test : (f : Format) (s : List ℕ) (cells : ℕ) (r : Refusal) (e : verdict_on (decoded_as f s) cells ≡ Err r)
     → words_of (verdict_on (decoded_as f s) cells) ≡ words_about (refused_by_its_test f s (table_tests (decoded_as f s).survey cells) r e).failed.about
 words_of_its_test f s cells r e =
     ap words_of e ∙ ap (λ q. words_about q.about) (refused_by_its_test f s (table_tests (decoded_as f s).survey cells) r e).is

@@ -1,13 +1,12 @@
 // An answer as plain numbers, laid out as C lays them out: the refusal's number and place, both 0 where nothing is refused, and
 // the figures, all 0 in a refusal. No refusal has number 0 (specs/RefusalLaws.antt).
+ghost use Rattle.refusal.specs.Test.{Verdict};
 ghost use Rattle.std.specs.Prelude.{◌≡◌, ◌≤◌};
 ghost use Rattle.rewrite.specs.Rewritten.{most_bytes};
 ghost use Rattle.answers.specs.Numbers.{table_numbers, litres_numbers, height_numbers, converted_numbers};
 
 use convert::Converted;
-use lookup::height::HeightAnswer;
-use lookup::litres::LitresAnswer;
-use refusal::Verdict;
+use refusal::Refusal;
 use rewrite::rewritten::MOST_BYTES;
 use table::make::Made;
 
@@ -68,16 +67,16 @@ pub fn table_numbers(answer: Made) -> TableNumbers
     }
 }
 
-pub fn litres_numbers(answer: LitresAnswer) -> LitresNumbers
+pub fn litres_numbers(answer: Result<Volume, Refusal>) -> LitresNumbers
     ensures { result ≡ litres_numbers answer }
 {
     match answer {
-        LitresAnswer::Litres(volume) => LitresNumbers {
+        Ok(volume) => LitresNumbers {
             refusal: 0,
             place: 0,
             volume: volume.units(),
         },
-        LitresAnswer::Refused(r) => LitresNumbers {
+        Err(r) => LitresNumbers {
             refusal: r.number,
             place: r.place,
             volume: 0,
@@ -85,16 +84,16 @@ pub fn litres_numbers(answer: LitresAnswer) -> LitresNumbers
     }
 }
 
-pub fn height_numbers(answer: HeightAnswer) -> HeightNumbers
+pub fn height_numbers(answer: Result<DipHeight, Refusal>) -> HeightNumbers
     ensures { result ≡ height_numbers answer }
 {
     match answer {
-        HeightAnswer::Height(height) => HeightNumbers {
+        Ok(height) => HeightNumbers {
             refusal: 0,
             place: 0,
             height: height.units(),
         },
-        HeightAnswer::Refused(r) => HeightNumbers {
+        Err(r) => HeightNumbers {
             refusal: r.number,
             place: r.place,
             height: 0,
@@ -109,13 +108,13 @@ pub fn converted_numbers(answer: Converted) -> ConvertedNumbers
     let verdict = answer.verdict;
     let file = answer.file;
     match verdict {
-        Verdict::Passed => ConvertedNumbers {
+        Ok(()) => ConvertedNumbers {
             refusal: 0,
             place: 0,
             length: answer.length as u32,
             file,
         },
-        Verdict::Refused(r) => ConvertedNumbers {
+        Err(r) => ConvertedNumbers {
             refusal: r.number,
             place: r.place,
             length: 0,

@@ -1,9 +1,10 @@
 // A refusal in words, laid out as C lays it out.
+ghost use Rattle.refusal.specs.Test.{Verdict};
 ghost use Rattle.std.specs.Prelude.{◌≡◌, ◌<◌};
 ghost use Rattle.sentences.specs.Sentences.{words_size};
 ghost use Rattle.answers.specs.Numbers.{words_about, words_of};
 
-use refusal::{About, Verdict};
+use refusal::{About, Refusal};
 use sentences::put_words;
 
 // The words of a refusal: the first `length` bytes of the text; behind them it is 0, and at least one byte is.
@@ -28,16 +29,16 @@ pub fn words_about(about: About) -> Words
 }
 
 // The words of a verdict; none where nothing is refused.
-pub fn in_words(verdict: Verdict) -> Words
+pub fn in_words(verdict: Result<(), Refusal>) -> Words
     ensures value { result ≡ words_of verdict }
     ensures length_lt_words_size { result.length < words_size }
 {
     match verdict {
-        Verdict::Passed => Words {
+        Ok(()) => Words {
             length: 0,
             text: [0u8; 256],
         },
-        Verdict::Refused(r) => {
+        Err(r) => {
             let about = r.about;
             words_about(about)
         }

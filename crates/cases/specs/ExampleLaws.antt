@@ -1,11 +1,10 @@
 -- What document 01's example survey comes to: no test of the file refuses it, it has six rows, and it is answered with a table of its two
 -- diameters and those rows. A program that refuses everything, or gives another row count, answers it falsely. Its table can be turned over.
 -- Assumes nothing.
-use Rattle.std.specs.Prelude.{ℕ, ◌+◌, ◌%◌, ◌≤◌, ◌≡◌, refl, List, length, get_or}
+use Rattle.std.specs.Prelude.{ℕ, ◌+◌, ◌%◌, ◌≤◌, ◌≡◌, refl, List, length, get_or, Ok}
 use Rattle.std.proofs.Common.{ap, arith}
 use Rattle.measure.specs.Quantity.{diameter, diameter_units}
 use Rattle.schedule.specs.Rows.{row_count}
-use Rattle.refusal.specs.declared.Verdict.TheVariants.{Passed}
 use Rattle.survey.specs.Survey.{decoded_by, decoded}
 use Rattle.survey.proofs.SurveyLaws.{decoded_fits}
 use Rattle.survey.specs.ExampleLaws.{six_rows, six_rows_survey}
@@ -16,7 +15,7 @@ use Rattle.table.specs.NoDeadwoodLaws.{no_deadwood_answered}
 use Rattle.mirror.specs.Mirrored.{MirroredSurvey, Around}
 use Rattle.mirror.proofs.TableLaws.{table_mirrored}
 
-pub example_accepted : (decoded six_rows).verdict ≡ Passed
+pub example_accepted : (decoded six_rows).verdict ≡ Ok tt
 example_accepted = ap (λ file. file.verdict) six_rows_decoded
 
 pub example_rows : row_count (diameter_units (decoded six_rows).survey.tank.dh) (decoded six_rows).survey.step ≡ 6
@@ -27,7 +26,7 @@ pub example_made : (cells : ℕ) → 6 ≤ cells → made (decoded six_rows) cel
 unfolding row_count
 example_made cells room =
     rw six_rows_decoded
-    (no_deadwood_answered (decoded_by Passed six_rows_survey) cells (rw six_rows_decoded at (decoded_fits six_rows)) refl refl room)
+    (no_deadwood_answered (decoded_by (Ok tt) six_rows_survey) cells (rw six_rows_decoded at (decoded_fits six_rows)) refl refl room)
 
 -- what a table must be to be turned over (document 02, E7) it is: so rows 0 and 5, 1 and 4, 2 and 3 together are row 5 within 3 v
 pub example_mirrors : MirroredSurvey (decoded six_rows).survey

@@ -1,9 +1,8 @@
 -- What converting a file with a header of 48 bytes gives (document 02, E4): the file in today's format where making its table, with room for
 -- every row, meets no refusal; else the refusal. And that what was made of the old file is made of the new one. Assumes nothing.
-use Rattle.std.specs.Prelude.{ℕ, ◌≡◌, List, ◌++◌, length, take, drop, replicate}
+use Rattle.refusal.specs.Test.{Verdict}
+use Rattle.std.specs.Prelude.{ℕ, ◌≡◌, List, ◌++◌, length, take, drop, replicate, Ok, Err}
 use Rattle.schedule.specs.Rows.{most_rows}
-use Rattle.refusal.specs.declared.Verdict.{Verdict}
-use Rattle.refusal.specs.declared.Verdict.TheVariants.{Passed, Refused}
 use Rattle.file.specs.Format.{format48}
 use Rattle.survey.specs.Survey.{decoded_as, decoded}
 use Rattle.rewrite.specs.Rewritten.{rewritten, most_bytes}
@@ -15,8 +14,8 @@ abbrev pub in_front : List ℕ → List ℕ
 in_front file = file ++ drop (length file) (replicate most_bytes 0)
 
 abbrev pub converted_by : Verdict → List ℕ → Converted
-converted_by Passed s = record { verdict = Passed; length = length (rewritten s); file = in_front (rewritten s) }
-converted_by (Refused r) s = record { verdict = Refused r; length = 0; file = replicate most_bytes 0 }
+converted_by (Ok tt) s = record { verdict = Ok tt; length = length (rewritten s); file = in_front (rewritten s) }
+converted_by (Err r) s = record { verdict = Err r; length = 0; file = replicate most_bytes 0 }
 
 unfoldable pub converted : List ℕ → Converted
 converted s = converted_by (verdict_on (decoded_as format48 s) most_rows) s
@@ -29,7 +28,7 @@ file_in r = take r.length r.file
 -- those of the old file
 abbrev pub Keeps : List ℕ → Converted → Type 0
 Keeps s r =
-    r.verdict ≡ Passed
-    → (verdict_on (decoded (file_in r)) most_rows ≡ Passed)
+    r.verdict ≡ Ok tt
+    → (verdict_on (decoded (file_in r)) most_rows ≡ Ok tt)
     × ((table : List ℕ) → (made (decoded (file_in r)) (length table) ≡ made (decoded_as format48 s) (length table))
     × (table_left (decoded (file_in r)) table ≡ table_left (decoded_as format48 s) table))

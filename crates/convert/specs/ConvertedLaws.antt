@@ -1,11 +1,9 @@
 -- A converted file is accepted and keeps the table: both files give the same survey. Assumes nothing.
-use Rattle.std.specs.Prelude.{◌≡◌, refl, List, ℕ, ◌≤◌, length}
+use Rattle.std.specs.Prelude.{◌≡◌, refl, List, ℕ, ◌≤◌, length, Ok, Err}
 use Rattle.std.proofs.Common.{◌∙◌, ap, arith}
 use Rattle.std.proofs.Math.Seq.{take-append_seam}
 use Rattle.schedule.specs.Rows.{most_rows}
-use Rattle.refusal.specs.declared.Verdict.{Verdict}
-use Rattle.refusal.specs.declared.Verdict.TheVariants.{Passed, Refused}
-use Rattle.refusal.specs.Test.{verdict}
+use Rattle.refusal.specs.Test.{verdict, Verdict}
 use Rattle.refusal.specs.TestLaws.{refused_not_passed, passed_both}
 use Rattle.file.specs.Format.{format48}
 use Rattle.survey.specs.Survey.{decoded_as, decoded}
@@ -16,15 +14,15 @@ use Rattle.table.specs.Answer.{verdict_on, made, table_left}
 use Rattle.convert.specs.Converted.{converted_by, converted, file_in, Keeps}
 
 -- an old file that is accepted
-module _ (s : List ℕ) (e : verdict_on (decoded_as format48 s) most_rows ≡ Passed) where
-  pub old_passes : (decoded_as format48 s).verdict ≡ Passed
+module _ (s : List ℕ) (e : verdict_on (decoded_as format48 s) most_rows ≡ Ok tt) where
+  pub old_passes : (decoded_as format48 s).verdict ≡ Ok tt
   old_passes = let old = decoded_as format48 s in (passed_both old.verdict (verdict (table_tests old.survey most_rows)) e).0
 
   -- the file that is written has its survey
-  same_survey : decoded (file_in (converted_by Passed s)) ≡ decoded_as format48 s
+  same_survey : decoded (file_in (converted_by (Ok tt) s)) ≡ decoded_as format48 s
   same_survey = ap decoded (take-append_seam (rewritten s) _) ∙ rewritten_decoded s old_passes
 
-  accepted_keeps : Keeps s (converted_by Passed s)
+  accepted_keeps : Keeps s (converted_by (Ok tt) s)
   accepted_keeps p = (
     ap (λ file. verdict_on file most_rows) same_survey ∙ e,
     λ table. (ap (λ file. made file (length table)) same_survey, ap (λ file. table_left file table) same_survey),
@@ -35,13 +33,13 @@ unfolding converted
 converted_short s = by_verdict (verdict_on (decoded_as format48 s) most_rows) refl
   where
     by_verdict : (v : Verdict) → verdict_on (decoded_as format48 s) most_rows ≡ v → (converted_by v s).length ≤ most_bytes
-    by_verdict Passed e = rewritten_fits s (old_passes s e)
-    by_verdict (Refused r) e = omega arith
+    by_verdict (Ok tt) e = rewritten_fits s (old_passes s e)
+    by_verdict (Err r) e = omega arith
 
 pub converted_keeps : (s : List ℕ) → Keeps s (converted s)
 unfolding converted
 converted_keeps s = by_verdict (verdict_on (decoded_as format48 s) most_rows) refl
   where
     by_verdict : (v : Verdict) → verdict_on (decoded_as format48 s) most_rows ≡ v → Keeps s (converted_by v s)
-    by_verdict Passed e = accepted_keeps s e
-    by_verdict (Refused r) e = λ p. absurd (refused_not_passed r p)
+    by_verdict (Ok tt) e = accepted_keeps s e
+    by_verdict (Err r) e = λ p. absurd (refused_not_passed r p)

@@ -2,13 +2,13 @@
 // rows too.
 #![tactic(auto)]
 
+ghost use Rattle.refusal.specs.Test.{Verdict};
 ghost use Rattle.std.specs.Prelude.{◌≡◌, List, ℕ};
 ghost use Rattle.file.specs.Format.{format48};
 ghost use Rattle.survey.specs.Survey.{decoded_as};
-ghost use Rattle.refusal.specs.declared.Verdict.{Verdict};
 ghost use Rattle.convert.specs.Converted.{converted_by, converted, Keeps};
 
-use refusal::{Refusal, Verdict};
+use refusal::Refusal;
 use rewrite::rewritten::{MOST_BYTES, put_rewritten};
 use schedule::MOST_ROWS;
 use survey::decode::decode_48;
@@ -17,29 +17,29 @@ use table::judge::judged;
 // The file is the first `length` bytes, and behind them stands 0; a refusal has none.
 #[derive(Clone, Copy)]
 pub struct Converted {
-    pub verdict: Verdict,
+    pub verdict: Result<(), Refusal>,
     pub length: usize,
     pub file: [u8; MOST_BYTES],
 }
 
 fn refused(refusal: Refusal) -> Converted
-    ensures { (s : List ℕ) → result ≡ converted_by (Verdict.Refused refusal) s }
+    ensures { (s : List ℕ) → result ≡ converted_by (Err refusal) s }
 {
     Converted {
-        verdict: Verdict::Refused(refusal),
+        verdict: Err(refusal),
         length: 0,
         file: [0u8; MOST_BYTES],
     }
 }
 
 fn written(survey: &[u8]) -> Converted
-    requires { (decoded_as format48 survey.now).verdict ≡ Verdict.Passed }
-    ensures { result ≡ converted_by Verdict.Passed survey.now }
+    requires { (decoded_as format48 survey.now).verdict ≡ (Ok tt) }
+    ensures { result ≡ converted_by (Ok tt) survey.now }
 {
     let mut file = [0u8; MOST_BYTES];
     let length = put_rewritten(&mut file, 0, survey);
     Converted {
-        verdict: Verdict::Passed,
+        verdict: Ok(()),
         length,
         file,
     }
@@ -52,7 +52,7 @@ pub fn convert_48(survey: &[u8]) -> Converted
 {
     let verdict = judged(decode_48(survey), MOST_ROWS);
     match verdict {
-        Verdict::Refused(r) => refused(r),
-        Verdict::Passed => written(survey),
+        Err(r) => refused(r),
+        Ok(()) => written(survey),
     }
 }

@@ -1,9 +1,8 @@
 -- What judging a file gives: DH, D1 and D2 where no test refuses it, else the refusal. Assumes nothing.
-use Rattle.std.specs.Prelude.{ℕ, List}
+use Rattle.std.specs.Prelude.{ℕ, List, Ok, Err}
 use Rattle.laws.specs.Order.{pick}
 use Rattle.measure.specs.Quantity.{diameter, diameter_units}
-use Rattle.refusal.specs.declared.Verdict.{Verdict}
-use Rattle.refusal.specs.Test.{verdict, refusal_of}
+use Rattle.refusal.specs.Test.{verdict, refusal_of, Verdict}
 use Rattle.heads.specs.declared.kind.HeadKind.{HeadKind}
 use Rattle.heads.specs.Length.{fits_diameter}
 use Rattle.file.specs.declared.format.Format.{Format}
@@ -15,8 +14,8 @@ use Rattle.dimensions.specs.Dimensions.{shell_diameter, head_diameter, d1, d2}
 use Rattle.dimensions.specs.Tests.{diameter_tests, head_length_test}
 
 abbrev pub judged_with : Verdict → (dh d1 d2 : ℕ) → Dimensions
-judged_with Verdict.Passed dh d1 d2 = Dimensions.Found (diameter dh) (diameter d1) (diameter d2)
-judged_with (Verdict.Refused r) dh d1 d2 = Dimensions.Refused r
+judged_with (Ok tt) dh d1 d2 = Dimensions.Found (diameter dh) (diameter d1) (diameter d2)
+judged_with (Err r) dh d1 d2 = Dimensions.Refused r
 
 -- by refusal 7 alone, of a file with these sums
 abbrev pub diameters_judged : List ℕ → Sums → Dimensions

@@ -1,5 +1,6 @@
 -- What the judgement of a file tells of the verdict behind it, and what a diameter that was measured tells of its test. Assumes nothing.
-use Rattle.std.specs.Prelude.{ℕ, Bool, true, false, List, ◌≡◌, refl}
+use Rattle.refusal.specs.Test.{Verdict}
+use Rattle.std.specs.Prelude.{ℕ, Bool, true, false, List, ◌≡◌, refl, Ok, Err}
 use Rattle.std.proofs.Common.{sym, ◌∙◌}
 use Rattle.laws.specs.Order.{pick}
 use Rattle.measure.specs.declared.diameter.Diameter.{Diameter}
@@ -7,7 +8,6 @@ use Rattle.measure.specs.declared.diameter.Measured.{Measured}
 use Rattle.measure.specs.declared.diameter.Measured.TheVariants.{Within, Outside}
 use Rattle.measure.specs.Quantity.{diameter}
 use Rattle.refusal.specs.declared.Refusal.{Refusal}
-use Rattle.refusal.specs.declared.Verdict.{Verdict}
 use Rattle.file.specs.declared.format.Format.{Format}
 use Rattle.file.specs.Word.{word}
 use Rattle.file.specs.Layout.{dh_at}
@@ -16,14 +16,14 @@ use Rattle.dimensions.specs.Dimensions.{d1, d2}
 use Rattle.dimensions.specs.Judged.{judged_by}
 
 module _ (f : Format) (s : List ℕ) where
-  pub told_refused : (w : Verdict) {r : Refusal} → judged_by f s w ≡ Dimensions.Refused r → w ≡ Verdict.Refused r
-  told_refused Verdict.Passed {r} e = cc
-  told_refused (Verdict.Refused q) {r} e = cc
+  pub told_refused : (w : Verdict) {r : Refusal} → judged_by f s w ≡ Dimensions.Refused r → w ≡ Err r
+  told_refused (Ok tt) {r} e = cc
+  told_refused (Err q) {r} e = cc
 
   pub told_found : (w : Verdict) {x y z : Diameter} → judged_by f s w ≡ Dimensions.Found x y z
-      → (w ≡ Verdict.Passed) × (x ≡ diameter (word s dh_at)) × (y ≡ diameter (d1 f s)) × (z ≡ diameter (d2 f s))
-  told_found Verdict.Passed {x} {y} {z} e = (refl, cc, cc, cc)
-  told_found (Verdict.Refused q) {x} {y} {z} e = (cc, cc, cc, cc)
+      → (w ≡ Ok tt) × (x ≡ diameter (word s dh_at)) × (y ≡ diameter (d1 f s)) × (z ≡ diameter (d2 f s))
+  told_found (Ok tt) {x} {y} {z} e = (refl, cc, cc, cc)
+  told_found (Err q) {x} {y} {z} e = (cc, cc, cc, cc)
 
 -- what measuring a diameter told of the test behind it
 

@@ -4,7 +4,7 @@ ghost use Rattle.laws.specs.Order.{pick};
 ghost use Rattle.measure.specs.Diameter.{smallest, largest};
 ghost use Rattle.measure.specs.Pi.{pi_under};
 ghost use Rattle.measure.specs.Quantity.{diameter};
-ghost use Rattle.refusal.specs.Test.{verdict, refusal_of};
+ghost use Rattle.refusal.specs.Test.{verdict, refusal_of, Verdict};
 ghost use Rattle.tank.specs.Limits.{longest_shell};
 ghost use Rattle.file.specs.Limits.{most_courses};
 ghost use Rattle.dimensions.specs.Dimensions.{allowance, outer_diameter, wall, shell_diameter, head_diameter, diameter_fits};
@@ -20,7 +20,7 @@ use heads::length::fits_diameter;
 use measure::diameter::{Diameter, Measured};
 use measure::pi::{PI_OVER, PI_UNDER};
 use refusal::limits::is_near;
-use refusal::{Refusal, Verdict, about_of, next_limited};
+use refusal::{Refusal, about_of, next_limited};
 use sentences::{OF_HEAD_DIAMETER, OF_HEAD_LENGTH, OF_LENGTHS, OF_SHELL_DIAMETER};
 
 // How far the course lengths together may lie from L1, for each course.
@@ -45,21 +45,12 @@ fn allowance(t: Sums) -> u64
 }
 
 // Refusal 6: whether the lengths are as near to L1 as that.
-pub(crate) fn lengths_tested(t: Sums, l1: u32) -> Verdict
+pub(crate) fn lengths_tested(t: Sums, l1: u32) -> Result<(), Refusal>
     requires { SumsSmall t × (allowance t ≤ l1) × (l1 + allowance t < 2 ^ 32) }
     ensures { result ≡ verdict (lengths_test t l1 ∷ []) }
 {
     let most = allowance(t) as u32;
-    next_limited(
-        Verdict::Passed,
-        6,
-        0,
-        OF_LENGTHS,
-        0,
-        l1 - most,
-        t.lengths,
-        l1 + most,
-    )
+    next_limited(Ok(()), 6, 0, OF_LENGTHS, 0, l1 - most, t.lengths, l1 + most)
 }
 
 // Of circumferences, in pairs, weighted by lengths.

@@ -1,7 +1,7 @@
 // Refusals 6, 7 and 14, and the diameters of a file that none of them is given to.
 ghost use Rattle.std.specs.Prelude.{◌≡◌, ◌^◌, ◌≤◌, ◌<◌, length};
 ghost use Rattle.measure.specs.Diameter.{smallest, largest};
-ghost use Rattle.refusal.specs.Test.{verdict};
+ghost use Rattle.refusal.specs.Test.{verdict, Verdict};
 ghost use Rattle.heads.specs.Kind.{kind_of};
 ghost use Rattle.file.specs.Word.{word};
 ghost use Rattle.file.specs.Layout.{header_end, kind_at, dh_at, left_at, right_at, l3_at};
@@ -20,7 +20,7 @@ use file::format::Format;
 use file::layout;
 use file::word::word;
 use heads::kind::HeadKind;
-use refusal::Verdict;
+use refusal::Refusal;
 
 // The diameters of a file with these sums.
 fn diameters_in(s: &[u8], t: Sums) -> Dimensions
@@ -49,7 +49,7 @@ pub fn measured(f: Format, s: &[u8]) -> Dimensions
 {
     let t = file_sums(f, s);
     let lengths = lengths_tested(t, word(s, layout::L1));
-    if let Verdict::Refused(r) = lengths {
+    if let Err(r) = lengths {
         return Dimensions::Refused(r);
     }
     heads_in(s, diameters_in(s, t))

@@ -1,7 +1,6 @@
 -- What a file that passes refusals 1 to 3 promises, as plain facts: its size, its counts, and that every record of a section lies inside it. Assumes nothing.
-use Rattle.std.specs.Prelude.{ℕ, ◌≤◌, ◌≡◌, true, List, length}
+use Rattle.std.specs.Prelude.{ℕ, ◌≤◌, ◌≡◌, true, List, length, Ok}
 use Rattle.std.proofs.Common.{arith}
-use Rattle.refusal.specs.declared.Verdict.TheVariants.{Passed}
 use Rattle.refusal.specs.Test.{verdict}
 use Rattle.refusal.specs.TestLaws.{passed_all, within_pass}
 use Rattle.deadwood.specs.Item.{most_items}
@@ -21,10 +20,10 @@ pub record Placed (f : Format) (s : List ℕ) : Type 0 where
   pub few_courses : (courses f s).count ≤ most_courses
   pub few_items : (deadwood f s).count ≤ most_items
 
-pub size_fits : (f : Format) (s : List ℕ) → verdict (size_tests f s) ≡ Passed → (f.header ≤ length s) × (length s ≤ largest_file)
+pub size_fits : (f : Format) (s : List ℕ) → verdict (size_tests f s) ≡ Ok tt → (f.header ≤ length s) × (length s ≤ largest_file)
 size_fits f s size = within_pass f.header (length s) largest_file (passed_all (size_tests f s) size).1.0
 
-pub placed_file : (f : Format) (s : List ℕ) → Readable f → verdict (size_tests f s) ≡ Passed → verdict (layout_tests f s) ≡ Passed → Placed f s
+pub placed_file : (f : Format) (s : List ℕ) → Readable f → verdict (size_tests f s) ≡ Ok tt → verdict (layout_tests f s) ≡ Ok tt → Placed f s
 unfolding layout_tests
 placed_file f s readable size passed =
     let file = size_fits f s size in

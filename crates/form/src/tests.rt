@@ -1,6 +1,6 @@
 // Refusals 1 to 4, which look at nothing but the file's size, its sections and the head kind.
 ghost use Rattle.std.specs.Prelude.{◌≡◌, [], ◌∷◌, ◌+◌, ◌≤◌, length};
-ghost use Rattle.refusal.specs.Test.{verdict, first_refusal};
+ghost use Rattle.refusal.specs.Test.{verdict, first_refusal, Verdict};
 ghost use Rattle.file.specs.Layout.{kind_at};
 ghost use Rattle.file.specs.Limits.{largest_file};
 ghost use Rattle.file.specs.Section.{seams, seam_items, sections};
@@ -13,7 +13,7 @@ use file::layout;
 use file::section::{Records, Section, are_apart, courses, deadwood, is_placed, seam_items, seams};
 use file::word::word;
 use heads::kind::HeadKind;
-use refusal::{Refusal, Verdict, about_of, first_refusal, next_limited, next_test};
+use refusal::{Refusal, about_of, first_refusal, next_limited, next_test};
 use sentences::{
     OF_DEADWOOD_OVER_COURSES, OF_HEADER, OF_LARGE_FILE, OF_SEAMS_OVER_COURSES,
     OF_SEAMS_OVER_DEADWOOD, OF_SIZE,
@@ -25,20 +25,20 @@ pub const LARGEST_FILE: usize = 65_536;
 pub const MOST_COURSES: usize = 40;
 
 // Refusal 1: the file has its header, and is none too large. A size past the largest is not named.
-pub fn size_tested(f: Format, s: &[u8]) -> Verdict
+pub fn size_tested(f: Format, s: &[u8]) -> Result<(), Refusal>
     requires { Readable f }
     ensures { result ≡ verdict (size_tests f s.now) }
 {
     let low = f.header as u32;
     let high = LARGEST_FILE as u32;
     if LARGEST_FILE < s.len() {
-        return Verdict::Refused(Refusal {
+        return Err(Refusal {
             number: 1,
             place: 0,
             about: about_of(OF_LARGE_FILE, 0, 0, low, high),
         });
     }
-    next_limited(Verdict::Passed, 1, 0, OF_SIZE, 0, low, s.len() as u64, high)
+    next_limited(Ok(()), 1, 0, OF_SIZE, 0, low, s.len() as u64, high)
 }
 
 // The sentence of a section's count in the header.
@@ -53,7 +53,12 @@ fn count_sentence(records: Records) -> u32
 }
 
 // The verdict so far, and then refusal 2 of a section.
-fn count_tested(so_far: Verdict, fewest: u32, x: Section, most: u32) -> Verdict
+fn count_tested(
+    so_far: Result<(), Refusal>,
+    fewest: u32,
+    x: Section,
+    most: u32,
+) -> Result<(), Refusal>
     requires { Small x }
     ensures { result ≡ first_refusal so_far (verdict (count_test fewest x most ∷ [])) }
 {
@@ -63,7 +68,7 @@ fn count_tested(so_far: Verdict, fewest: u32, x: Section, most: u32) -> Verdict
 }
 
 // .. of the seams.
-fn seam_count_tested(so_far: Verdict, f: Format, s: &[u8]) -> Verdict
+fn seam_count_tested(so_far: Result<(), Refusal>, f: Format, s: &[u8]) -> Result<(), Refusal>
     requires { Readable f × (f.header ≤ length s.now) }
     ensures { result ≡ first_refusal so_far (verdict (count_test (seam_items f s.now) (seams f s.now) (seam_items f s.now) ∷ [])) }
 {
@@ -72,17 +77,22 @@ fn seam_count_tested(so_far: Verdict, f: Format, s: &[u8]) -> Verdict
 }
 
 // Refusal 2 of every section.
-fn counts_tested(f: Format, s: &[u8]) -> Verdict
+fn counts_tested(f: Format, s: &[u8]) -> Result<(), Refusal>
     requires { Readable f × (f.header ≤ length s.now) }
     ensures { result ≡ verdict (count_tests f s.now) }
 {
-    let v = count_tested(Verdict::Passed, 1, courses(f, s), MOST_COURSES as u32);
+    let v = count_tested(Ok(()), 1, courses(f, s), MOST_COURSES as u32);
     let v = count_tested(v, 0, deadwood(f, s), MOST_ITEMS as u32);
     seam_count_tested(v, f, s)
 }
 
 // The verdict so far, and then refusal 3 of a section's own place.
-fn place_tested(so_far: Verdict, header: usize, file_size: usize, x: Section) -> Verdict
+fn place_tested(
+    so_far: Result<(), Refusal>,
+    header: usize,
+    file_size: usize,
+    x: Section,
+) -> Result<(), Refusal>
     requires { Small x × (header ≤ largest_file) × (file_size ≤ largest_file) }
     ensures { result ≡ first_refusal so_far (verdict (place_test header file_size x ∷ [])) }
 {
@@ -111,7 +121,7 @@ fn overlap_sentence(first: Records, second: Records) -> u32
 }
 
 // .. of two sections.
-fn apart_tested(so_far: Verdict, x: Section, y: Section) -> Verdict
+fn apart_tested(so_far: Result<(), Refusal>, x: Section, y: Section) -> Result<(), Refusal>
     requires { Small x × Small y }
     ensures { result ≡ first_refusal so_far (verdict (apart_test x y ∷ [])) }
 {
@@ -124,12 +134,12 @@ fn apart_tested(so_far: Verdict, x: Section, y: Section) -> Verdict
 
 // The verdict so far, and then both of a section and the next.
 fn placed_before(
-    so_far: Verdict,
+    so_far: Result<(), Refusal>,
     header: usize,
     file_size: usize,
     x: Section,
     y: Section,
-) -> Verdict
+) -> Result<(), Refusal>
     requires { Small x × Small y × (header ≤ largest_file) × (file_size ≤ largest_file) }
     ensures { result ≡ first_refusal so_far (verdict (place_test header file_size x ∷ apart_test x y ∷ [])) }
 {
@@ -137,18 +147,24 @@ fn placed_before(
 }
 
 // Refusal 3 of three sections: each one's own place, and then those behind it.
-fn places_tested(header: usize, file_size: usize, x: Section, y: Section, z: Section) -> Verdict
+fn places_tested(
+    header: usize,
+    file_size: usize,
+    x: Section,
+    y: Section,
+    z: Section,
+) -> Result<(), Refusal>
     requires { Small x × Small y × Small z × (header ≤ largest_file) × (file_size ≤ largest_file) }
     ensures { result ≡ verdict (place_tests header file_size (x ∷ y ∷ z ∷ [])) }
 {
-    let v = placed_before(Verdict::Passed, header, file_size, x, y);
+    let v = placed_before(Ok(()), header, file_size, x, y);
     let v = apart_tested(v, x, z);
     let v = placed_before(v, header, file_size, y, z);
     place_tested(v, header, file_size, z)
 }
 
 // .. of a file's.
-fn sections_tested(f: Format, s: &[u8]) -> Verdict
+fn sections_tested(f: Format, s: &[u8]) -> Result<(), Refusal>
     requires { Readable f × (f.header ≤ length s.now) × (length s.now ≤ largest_file) }
     ensures { result ≡ verdict (place_tests f.header (length s.now) (sections f s.now)) }
 {
@@ -162,7 +178,7 @@ fn sections_tested(f: Format, s: &[u8]) -> Verdict
 }
 
 // The verdict so far, and then refusal 4.
-fn kind_tested(so_far: Verdict, s: &[u8]) -> Verdict
+fn kind_tested(so_far: Result<(), Refusal>, s: &[u8]) -> Result<(), Refusal>
     requires { kind_at + 4 ≤ length s.now }
     ensures { result ≡ first_refusal so_far (verdict (kind_test s.now ∷ [])) }
 {
@@ -172,7 +188,7 @@ fn kind_tested(so_far: Verdict, s: &[u8]) -> Verdict
 }
 
 // Refusals 2 to 4 of a file that passes the first.
-pub fn layout_tested(f: Format, s: &[u8]) -> Verdict
+pub fn layout_tested(f: Format, s: &[u8]) -> Result<(), Refusal>
     requires { Readable f × (f.header ≤ length s.now) × (length s.now ≤ largest_file) }
     ensures { result ≡ verdict (layout_tests f s.now) }
 {

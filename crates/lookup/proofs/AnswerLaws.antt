@@ -1,6 +1,6 @@
 -- What the answers of the lookups say outright: a volume is on the table, a height is the lowest, and refusals 12 and 13 are given exactly
 -- when the height is above DH, or the last row below the volume. Assumes nothing.
-use Rattle.std.specs.Prelude.{ℕ, ◌≤◌, ◌<◌, ◌≡◌, true, List, [], ◌∷◌, leb}
+use Rattle.std.specs.Prelude.{ℕ, ◌≤◌, ◌<◌, ◌≡◌, true, List, [], ◌∷◌, leb, Ok, Err}
 use Rattle.std.proofs.Math.Path.{refl}
 use Rattle.std.proofs.Common.{ap, arith, leb-true, leb-false}
 use Rattle.std.proofs.lemmas.Bool.{lt-leb}
@@ -10,29 +10,25 @@ use Rattle.laws.specs.ExactlyLaws.{exactly_when}
 use Rattle.measure.specs.Quantity.{dip_height, volume}
 use Rattle.refusal.specs.declared.About.{About}
 use Rattle.refusal.specs.declared.Refusal.{Refusal}
-use Rattle.refusal.specs.declared.Verdict.{Verdict}
-use Rattle.refusal.specs.declared.Verdict.TheVariants.{Passed, Refused}
-use Rattle.refusal.specs.Test.{Test, refusal, test, verdict}
+use Rattle.refusal.specs.Test.{Test, refusal, test, verdict, Verdict}
 use Rattle.refusal.specs.TestLaws.{second_refused}
-use Rattle.lookup.specs.declared.litres.LitresAnswer.{LitresAnswer}
-use Rattle.lookup.specs.declared.height.HeightAnswer.{HeightAnswer}
 use Rattle.lookup.specs.Table.{last_row, sound_table}
 use Rattle.lookup.specs.TableLaws.{sound}
 use Rattle.lookup.specs.Litres.{litres}
 use Rattle.lookup.proofs.LitresLaws.{on_table, never_falls_only, litres_at_top}
 use Rattle.lookup.specs.Height.{height_for}
 use Rattle.lookup.proofs.HeightLaws.{lowest_is, reached}
-use Rattle.lookup.specs.Answer.{unsound, too_high, too_much, litres_by, litres_answer, ReadOff, TooHigh, height_by, height_answer, Reached, TooMuch}
+use Rattle.lookup.specs.Answer.{unsound, too_high, too_much, litres_by, litres_answer, ReadOff, TooHigh, height_by, height_answer, Reached, TooMuch, LitresAnswer, HeightAnswer}
 
 abbrev height_refusal : HeightAnswer → ℕ
-height_refusal (HeightAnswer.Height h) = 0
-height_refusal (HeightAnswer.Refused r) = r.number
+height_refusal (Ok h) = 0
+height_refusal (Err r) = r.number
 
 -- the number of an answer's refusal, 0 for none
 
 abbrev litres_refusal : LitresAnswer → ℕ
-litres_refusal (LitresAnswer.Litres v) = 0
-litres_refusal (LitresAnswer.Refused r) = r.number
+litres_refusal (Ok v) = 0
+litres_refusal (Err r) = r.number
 
 module _ (dh step : ℕ) (table : List ℕ) where
   pub read_off : (h : ℕ) → ReadOff dh step table h (litres_answer dh step table h)
@@ -59,7 +55,7 @@ module _ (dh step : ℕ) (table : List ℕ) where
 
   -- what an answer says of the refusal of a number above its limit, and neither of refusal 11 nor where nothing is refused
   pub above_limit : (said : Verdict → Type 0) (number : ℕ) (what : About) (x limit : ℕ)
-      → (said Passed → ⊥) → (said (Refused (refusal 11 0 (unsound dh step))) → ⊥) → said (Refused (refusal number 0 what))
+      → (said (Ok tt) → ⊥) → (said (Err (refusal 11 0 (unsound dh step))) → ⊥) → said (Err (refusal number 0 what))
       → Exactly (said (verdict (up_to number what x limit))) ((sound_table dh step table ≡ true) × (limit < x))
   above_limit said number what x limit p q r =
       exactly_when (second_refused said (refusal 11 0 (unsound dh step)) (refusal number 0 what) p q r (sound_table dh step table) (leb x limit))
@@ -67,37 +63,37 @@ module _ (dh step : ℕ) (table : List ℕ) where
       (λ h. (h.0, lt-leb x limit h.1))
 
   -- of answers made of a verdict, told apart by the number of their refusal, 0 for none
-  pub refused_above : {A : Type 0} (by : Verdict → A) (number_of : A → ℕ) → number_of (by Passed) ≡ 0 → ((r : Refusal) → number_of (by (Refused r)) ≡ r.number)
+  pub refused_above : {A : Type 0} (by : Verdict → A) (number_of : A → ℕ) → number_of (by (Ok tt)) ≡ 0 → ((r : Refusal) → number_of (by (Err r)) ≡ r.number)
       → (number : ℕ) (what : About) (x limit : ℕ) → 11 < number
-      → Exactly (by (verdict (up_to number what x limit)) ≡ by (Refused (refusal number 0 what))) ((sound_table dh step table ≡ true) × (limit < x))
+      → Exactly (by (verdict (up_to number what x limit)) ≡ by (Err (refusal number 0 what))) ((sound_table dh step table ≡ true) × (limit < x))
   refused_above by number_of none its number what x limit other =
-      above_limit (λ v. by v ≡ by (Refused (refusal number 0 what))) number what x limit
+      above_limit (λ v. by v ≡ by (Err (refusal number 0 what))) number what x limit
       (λ e. absurd (omega (arith, ap number_of e, none, its (refusal number 0 what))))
       (λ e. absurd (omega (arith, ap number_of e, its (refusal 11 0 (unsound dh step)), its (refusal number 0 what))))
       refl
 
-  pub refused_too_high : (h : ℕ) → Exactly (litres_answer dh step table h ≡ LitresAnswer.Refused (refusal 12 0 (too_high h dh))) (TooHigh dh step table h)
+  pub refused_too_high : (h : ℕ) → Exactly (litres_answer dh step table h ≡ Err (refusal 12 0 (too_high h dh))) (TooHigh dh step table h)
   unfolding litres_answer
   refused_too_high h = refused_above (λ v. litres_by v (litres dh step table h)) litres_refusal refl (λ r. refl) 12 _ h dh (omega arith)
 
   pub refused_too_much : (w : ℕ)
-      → Exactly (height_answer dh step table w ≡ HeightAnswer.Refused (refusal 13 0 (too_much w (last_row dh step table)))) (TooMuch dh step table w)
+      → Exactly (height_answer dh step table w ≡ Err (refusal 13 0 (too_much w (last_row dh step table)))) (TooMuch dh step table w)
   unfolding height_answer
   refused_too_much w = refused_above (λ v. height_by v (height_for dh step table w)) height_refusal refl (λ r. refl) 13 _ w _ (omega arith)
 
   -- so the answer alone tells all that a lookup promises
   pub litres_told : (h : ℕ) {r : LitresAnswer} → r ≡ litres_answer dh step table h
-      → (r ≡ litres_answer dh step table h) × (ReadOff dh step table h r × Exactly (r ≡ LitresAnswer.Refused (refusal 12 0 (too_high h dh))) (TooHigh dh step table h))
+      → (r ≡ litres_answer dh step table h) × (ReadOff dh step table h r × Exactly (r ≡ Err (refusal 12 0 (too_high h dh))) (TooHigh dh step table h))
   litres_told h e = (e, rw e (read_off h, refused_too_high h))
 
   pub height_told : (w : ℕ) {r : HeightAnswer} → r ≡ height_answer dh step table w
       → (r ≡ height_answer dh step table w)
-      × (Reached dh step table w r × Exactly (r ≡ HeightAnswer.Refused (refusal 13 0 (too_much w (last_row dh step table)))) (TooMuch dh step table w))
+      × (Reached dh step table w r × Exactly (r ≡ Err (refusal 13 0 (too_much w (last_row dh step table)))) (TooMuch dh step table w))
   height_told w e = (e, rw e (reached_answer w, refused_too_much w))
 
   -- and what is promised leaves no other answer
-  pub read_off_only : (h v : ℕ) → sound_table dh step table ≡ true → h ≤ dh → ReadOff dh step table h (LitresAnswer.Litres (volume v)) → v ≡ litres dh step table h
+  pub read_off_only : (h v : ℕ) → sound_table dh step table ≡ true → h ≤ dh → ReadOff dh step table h (Ok (volume v)) → v ≡ litres dh step table h
   read_off_only h v e l told = never_falls_only dh step table (sound dh step table e) h v l told
 
-  pub reached_only : (w h : ℕ) → Reached dh step table w (HeightAnswer.Height (dip_height h)) → height_for dh step table w ≡ h
+  pub reached_only : (w h : ℕ) → Reached dh step table w (Ok (dip_height h)) → height_for dh step table w ≡ h
   reached_only w h told = lowest_is told

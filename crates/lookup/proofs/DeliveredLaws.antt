@@ -1,6 +1,6 @@
 -- Laws of the litres delivered: none between equal heights; the heights exchanged, the sign turned; from a first height to a second and on
 -- to a third they add up; and a higher second height never gives a negative answer. And what an answer says outright. Assumes nothing.
-use Rattle.std.specs.Prelude.{ℕ, ◌-◌, ◌≤◌, max, ◌≡◌, refl, true, List, leb, ℤ, pos, neg_ℤ, ◌+ℤ◌, ◌-ℤ◌}
+use Rattle.std.specs.Prelude.{ℕ, ◌-◌, ◌≤◌, max, ◌≡◌, refl, true, List, leb, ℤ, pos, neg_ℤ, ◌+ℤ◌, ◌-ℤ◌, Ok, Err}
 use Rattle.std.proofs.Common.{sym, ◌∙◌, ap, arith}
 use borrow.Author.Tests.{le-leb, lt-leb, le-ltb, lt-ltb, leb-true, leb-false}
 use Rattle.std.proofs.Math.IntN.{+ℤ_assoc, +ℤ_comm, +ℤ_invr, neg_ℤ-neg_ℤ, neg_ℤ-+ℤ, +ℤ-neg_ℤ_cancel, -ℤ-+ℤ_cancel}
@@ -11,28 +11,24 @@ use Rattle.laws.proofs.HalfLaws.{difference_up}
 use Rattle.laws.proofs.SignedLaws.{minus}
 use Rattle.measure.specs.Quantity.{volume_units}
 use Rattle.refusal.specs.declared.Refusal.{Refusal}
-use Rattle.refusal.specs.declared.Verdict.{Verdict}
-use Rattle.refusal.specs.declared.Verdict.TheVariants.{Passed, Refused}
-use Rattle.refusal.specs.Test.{refusal, verdict}
-use Rattle.lookup.specs.declared.litres.LitresAnswer.{LitresAnswer}
-use Rattle.lookup.specs.declared.delivered.DeliveredAnswer.{DeliveredAnswer}
+use Rattle.refusal.specs.Test.{refusal, verdict, Verdict}
 use Rattle.lookup.specs.Table.{sound_table}
 use Rattle.lookup.specs.TableLaws.{sound}
 use Rattle.lookup.specs.Litres.{litres}
 use Rattle.lookup.proofs.LitresLaws.{litres_mono, never_falls_only}
-use Rattle.lookup.specs.Answer.{too_high, litres_answer, ReadOff, TooHigh}
+use Rattle.lookup.specs.Answer.{too_high, litres_answer, ReadOff, TooHigh, LitresAnswer}
 use Rattle.lookup.proofs.AnswerLaws.{up_to, read_off, refused_above}
-use Rattle.lookup.specs.Delivered.{delivered_by, delivered_answer, ReadOffBoth, higher}
+use Rattle.lookup.specs.Delivered.{delivered_by, delivered_answer, ReadOffBoth, higher, DeliveredAnswer}
 
 abbrev delivered_refusal : DeliveredAnswer → ℕ
-delivered_refusal (DeliveredAnswer.Litres d) = 0
-delivered_refusal (DeliveredAnswer.Refused r) = r.number
+delivered_refusal (Ok d) = 0
+delivered_refusal (Err r) = r.number
 
 -- ---- the two tests as one: of the higher height, about the first that is above DH
 
 abbrev difference_by : Verdict → ℤ → DeliveredAnswer
-difference_by Passed d = DeliveredAnswer.Litres d
-difference_by (Refused r) d = DeliveredAnswer.Refused r
+difference_by (Ok tt) d = Ok d
+difference_by (Err r) d = Err r
 
 -- ---- differences
 
@@ -51,10 +47,10 @@ taken_off y d z e = sym (+ℤ-neg_ℤ_cancel d y) ∙ ap (λ w. w -ℤ y) (+ℤ_
 not_below_zero : (m n : ℕ) → m ≤ n → non_neg (pos n -ℤ pos m) ≡ true
 not_below_zero m n l = rw (minus n m, difference_up n m (n - m) (omega arith))
 
-same_litres : {y z : ℤ} → DeliveredAnswer.Litres y ≡ DeliveredAnswer.Litres z → y ≡ z
+same_litres : {y z : ℤ} → Ok y ≡ Ok z → y ≡ z
 same_litres e = cc
 
-not_litres : {r : Refusal} {d : ℤ} → DeliveredAnswer.Refused r ≡ DeliveredAnswer.Litres d → ⊥
+not_litres : {r : Refusal} {d : ℤ} → Err r ≡ Ok d → ⊥
 not_litres e = let z : ◌≡◌ {A = ℕ} 0 1 = cc in omega arith
 
 module _ (dh step : ℕ) (table : List ℕ) where
@@ -82,7 +78,7 @@ module _ (dh step : ℕ) (table : List ℕ) where
 
   -- between heights up to DH the difference is answered
   pub delivered_inside : (before after : ℕ) → sound_table dh step table ≡ true → before ≤ dh → after ≤ dh
-      → delivered_answer dh step table before after ≡ DeliveredAnswer.Litres (pos (litres dh step table after) -ℤ pos (litres dh step table before))
+      → delivered_answer dh step table before after ≡ Ok (pos (litres dh step table after) -ℤ pos (litres dh step table before))
   delivered_inside before after s l m = by_higher before after ∙ rw (s, le-leb (max before after) dh (omega arith))
 
   -- .. and only there
@@ -92,7 +88,7 @@ module _ (dh step : ℕ) (table : List ℕ) where
     second : after ≤ dh
     is : d ≡ gain before after
 
-  answered : (before after : ℕ) {d : ℤ} → delivered_answer dh step table before after ≡ DeliveredAnswer.Litres d → Answered before after d
+  answered : (before after : ℕ) {d : ℤ} → delivered_answer dh step table before after ≡ Ok d → Answered before after d
   answered before after e =
       let given = sym (by_higher before after) ∙ e in
       by_test (sound_table dh step table)
@@ -104,25 +100,25 @@ module _ (dh step : ℕ) (table : List ℕ) where
       (λ f. absurd (not_litres (rw (s, f) at given))))
       (λ s. absurd (not_litres (rw s at given)))
 
-  pub delivered_nothing : (h : ℕ) → sound_table dh step table ≡ true → h ≤ dh → delivered_answer dh step table h h ≡ DeliveredAnswer.Litres (pos 0)
-  delivered_nothing h s l = delivered_inside h h s l l ∙ ap DeliveredAnswer.Litres (+ℤ_invr (held h))
+  pub delivered_nothing : (h : ℕ) → sound_table dh step table ≡ true → h ≤ dh → delivered_answer dh step table h h ≡ Ok (pos 0)
+  delivered_nothing h s l = delivered_inside h h s l l ∙ ap Ok (+ℤ_invr (held h))
 
-  pub delivered_exchanged : (before after : ℕ) {d : ℤ} → delivered_answer dh step table before after ≡ DeliveredAnswer.Litres d
-      → delivered_answer dh step table after before ≡ DeliveredAnswer.Litres (neg_ℤ d)
+  pub delivered_exchanged : (before after : ℕ) {d : ℤ} → delivered_answer dh step table before after ≡ Ok d
+      → delivered_answer dh step table after before ≡ Ok (neg_ℤ d)
   delivered_exchanged before after e =
       let x = answered before after e in
-      rw x.is (delivered_inside after before x.is_sound x.second x.first ∙ ap DeliveredAnswer.Litres (turned (held before) (held after)))
+      rw x.is (delivered_inside after before x.is_sound x.second x.first ∙ ap Ok (turned (held before) (held after)))
 
-  pub delivered_in_turn : (first second third : ℕ) {d e : ℤ} → delivered_answer dh step table first second ≡ DeliveredAnswer.Litres d
-      → delivered_answer dh step table second third ≡ DeliveredAnswer.Litres e
-      → delivered_answer dh step table first third ≡ DeliveredAnswer.Litres (d +ℤ e)
+  pub delivered_in_turn : (first second third : ℕ) {d e : ℤ} → delivered_answer dh step table first second ≡ Ok d
+      → delivered_answer dh step table second third ≡ Ok e
+      → delivered_answer dh step table first third ≡ Ok (d +ℤ e)
   delivered_in_turn first second third p q =
       let x = answered first second p in
       let y = answered second third q in
       rw (x.is, y.is)
-      (delivered_inside first third x.is_sound x.first y.second ∙ ap DeliveredAnswer.Litres (joined (held first) (held second) (held third)))
+      (delivered_inside first third x.is_sound x.first y.second ∙ ap Ok (joined (held first) (held second) (held third)))
 
-  pub delivered_higher : (before after : ℕ) {d : ℤ} → before ≤ after → delivered_answer dh step table before after ≡ DeliveredAnswer.Litres d
+  pub delivered_higher : (before after : ℕ) {d : ℤ} → before ≤ after → delivered_answer dh step table before after ≡ Ok d
       → non_neg d ≡ true
   delivered_higher before after l e =
       let x = answered before after e in
@@ -132,9 +128,9 @@ module _ (dh step : ℕ) (table : List ℕ) where
 
   both_read : (before after : ℕ) (x y : LitresAnswer) → ReadOff dh step table before x → ReadOff dh step table after y
       → ReadOffBoth dh step table before after (delivered_by x y)
-  both_read before after (LitresAnswer.Refused r) y p q = tt
-  both_read before after (LitresAnswer.Litres a) (LitresAnswer.Refused r) p q = tt
-  both_read before after (LitresAnswer.Litres a) (LitresAnswer.Litres b) p q =
+  both_read before after (Err r) y p q = tt
+  both_read before after (Ok a) (Err r) p q = tt
+  both_read before after (Ok a) (Ok b) p q =
       record { a = volume_units a; b = volume_units b; at_first = p; at_second = q; adds_up = put_back (pos (volume_units a)) (pos (volume_units b)) }
 
   pub read_off_both : (before after : ℕ) → ReadOffBoth dh step table before after (delivered_answer dh step table before after)
@@ -144,7 +140,7 @@ module _ (dh step : ℕ) (table : List ℕ) where
       (read_off dh step table before) (read_off dh step table after)
 
   refused_either : (before after : ℕ)
-      → Exactly (delivered_answer dh step table before after ≡ DeliveredAnswer.Refused (refusal 12 0 (too_high (higher dh before after) dh)))
+      → Exactly (delivered_answer dh step table before after ≡ Err (refusal 12 0 (too_high (higher dh before after) dh)))
       (TooHigh dh step table (max before after))
   refused_either before after =
       rw (by_higher before after)
@@ -154,12 +150,12 @@ module _ (dh step : ℕ) (table : List ℕ) where
   pub delivered_told : (before after : ℕ) {r : DeliveredAnswer} → r ≡ delivered_answer dh step table before after
       → (r ≡ delivered_answer dh step table before after)
       × (ReadOffBoth dh step table before after r
-      × Exactly (r ≡ DeliveredAnswer.Refused (refusal 12 0 (too_high (higher dh before after) dh))) (TooHigh dh step table (max before after)))
+      × Exactly (r ≡ Err (refusal 12 0 (too_high (higher dh before after) dh))) (TooHigh dh step table (max before after)))
   delivered_told before after e = (e, rw e (read_off_both before after, refused_either before after))
 
   -- and what is promised leaves no other answer
   pub read_off_both_only : (before after : ℕ) (d : ℤ) → sound_table dh step table ≡ true → before ≤ dh → after ≤ dh
-      → ReadOffBoth dh step table before after (DeliveredAnswer.Litres d) → delivered_answer dh step table before after ≡ DeliveredAnswer.Litres d
+      → ReadOffBoth dh step table before after (Ok d) → delivered_answer dh step table before after ≡ Ok d
   read_off_both_only before after d s l m told =
       let first = never_falls_only dh step table (sound dh step table s) before told.a l told.at_first in
       let second = never_falls_only dh step table (sound dh step table s) after told.b m told.at_second in

@@ -1,16 +1,10 @@
 -- The answers of both lookups: the tests in the paper's order, each with its number, its place and what it is about, and the
 -- figure where all pass. Assumes nothing.
-use Rattle.std.specs.Prelude.{ℕ, ◌<◌, ◌≡◌, true, List, [], ◌∷◌, leb}
+use Rattle.std.specs.Prelude.{ℕ, ◌<◌, ◌≡◌, true, List, [], ◌∷◌, leb, Ok, Err}
 use Rattle.measure.specs.Quantity.{dip_height, dip_units, volume, volume_units}
 use Rattle.refusal.specs.declared.About.{About}
-use Rattle.refusal.specs.declared.Verdict.{Verdict}
-use Rattle.refusal.specs.declared.Verdict.TheVariants.{Passed, Refused}
-use Rattle.refusal.specs.Test.{Test, about, test, verdict}
+use Rattle.refusal.specs.Test.{Test, about, test, verdict, Verdict}
 use Rattle.sentences.specs.Sentences.{of_table, of_height, of_volume}
-use Rattle.lookup.specs.declared.litres.LitresAnswer.{LitresAnswer}
-use Rattle.lookup.specs.declared.litres.LitresAnswer.TheVariants as litres_answers
-use Rattle.lookup.specs.declared.height.HeightAnswer.{HeightAnswer}
-use Rattle.lookup.specs.declared.height.HeightAnswer.TheVariants as height_answers
 use Rattle.lookup.specs.Table.{last_row, sound_table}
 use Rattle.lookup.specs.Litres.{litres, OnTable}
 use Rattle.lookup.specs.Height.{height_for, Lowest}
@@ -35,16 +29,16 @@ abbrev pub litres_tests : (dh step : ℕ) (table : List ℕ) (h : ℕ) → List 
 litres_tests dh step table h = test 11 0 (sound_table dh step table) (unsound dh step) ∷ test 12 0 (leb h dh) (too_high h dh) ∷ []
 
 abbrev pub litres_by : Verdict → ℕ → LitresAnswer
-litres_by Passed v = litres_answers.Litres (volume v)
-litres_by (Refused r) v = litres_answers.Refused r
+litres_by (Ok tt) v = Ok (volume v)
+litres_by (Err r) v = Err r
 
 unfoldable pub litres_answer : (dh step : ℕ) (table : List ℕ) (h : ℕ) → LitresAnswer
 litres_answer dh step table h = litres_by (verdict (litres_tests dh step table h)) (litres dh step table h)
 
 -- of a volume given as the answer, what it is, said outright
 abbrev pub ReadOff : (dh step : ℕ) (table : List ℕ) (h : ℕ) → LitresAnswer → Type 0
-ReadOff dh step table h (litres_answers.Litres v) = OnTable dh step table h (volume_units v)
-ReadOff dh step table h (litres_answers.Refused r) = Unit {0}
+ReadOff dh step table h (Ok v) = OnTable dh step table h (volume_units v)
+ReadOff dh step table h (Err r) = Unit {0}
 
 -- what refusal 12 is given for: the table is sound, and the height is above DH
 abbrev pub TooHigh : (dh step : ℕ) (table : List ℕ) (h : ℕ) → Type 0
@@ -58,16 +52,16 @@ height_tests dh step table w =
     test 11 0 (sound_table dh step table) (unsound dh step) ∷ test 13 0 (leb w last) (too_much w last) ∷ []
 
 abbrev pub height_by : Verdict → ℕ → HeightAnswer
-height_by Passed h = height_answers.Height (dip_height h)
-height_by (Refused r) h = height_answers.Refused r
+height_by (Ok tt) h = Ok (dip_height h)
+height_by (Err r) h = Err r
 
 unfoldable pub height_answer : (dh step : ℕ) (table : List ℕ) (w : ℕ) → HeightAnswer
 height_answer dh step table w = height_by (verdict (height_tests dh step table w)) (height_for dh step table w)
 
 -- of a height given as the answer, what it is, said outright
 abbrev pub Reached : (dh step : ℕ) (table : List ℕ) (w : ℕ) → HeightAnswer → Type 0
-Reached dh step table w (height_answers.Height h) = Lowest dh step table w (dip_units h)
-Reached dh step table w (height_answers.Refused r) = Unit {0}
+Reached dh step table w (Ok h) = Lowest dh step table w (dip_units h)
+Reached dh step table w (Err r) = Unit {0}
 
 -- what refusal 13 is given for: the table is sound, and its last row is below the volume
 abbrev pub TooMuch : (dh step : ℕ) (table : List ℕ) (w : ℕ) → Type 0

@@ -1,19 +1,15 @@
 -- The litres delivered between two dips: those at the second height less those at the first, with their sign, or the first refusal of the
 -- two. Assumes nothing.
-use Rattle.std.specs.Prelude.{ℕ, ◌≡◌, List, ltb, ℤ, pos, ◌+ℤ◌, ◌-ℤ◌}
+use Rattle.std.specs.Prelude.{ℕ, ◌≡◌, List, ltb, ℤ, pos, ◌+ℤ◌, ◌-ℤ◌, Ok, Err}
 use Rattle.laws.specs.Order.{pick}
 use Rattle.measure.specs.Quantity.{volume_units}
-use Rattle.lookup.specs.declared.litres.LitresAnswer.{LitresAnswer}
-use Rattle.lookup.specs.declared.litres.LitresAnswer.TheVariants as litres_answers
-use Rattle.lookup.specs.declared.delivered.DeliveredAnswer.{DeliveredAnswer}
-use Rattle.lookup.specs.declared.delivered.DeliveredAnswer.TheVariants as delivered_answers
 use Rattle.lookup.specs.Litres.{OnTable}
-use Rattle.lookup.specs.Answer.{litres_answer}
+use Rattle.lookup.specs.Answer.{litres_answer, LitresAnswer}
 
 abbrev pub delivered_by : LitresAnswer → LitresAnswer → DeliveredAnswer
-delivered_by (litres_answers.Refused r) second = delivered_answers.Refused r
-delivered_by (litres_answers.Litres a) (litres_answers.Refused r) = delivered_answers.Refused r
-delivered_by (litres_answers.Litres a) (litres_answers.Litres b) = delivered_answers.Litres (pos (volume_units b) -ℤ pos (volume_units a))
+delivered_by (Err r) second = Err r
+delivered_by (Ok a) (Err r) = Err r
+delivered_by (Ok a) (Ok b) = Ok (pos (volume_units b) -ℤ pos (volume_units a))
 
 unfoldable pub delivered_answer : (dh step : ℕ) (table : List ℕ) (before after : ℕ) → DeliveredAnswer
 delivered_answer dh step table before after = delivered_by (litres_answer dh step table before) (litres_answer dh step table after)
@@ -32,5 +28,5 @@ pub record Difference (dh step : ℕ) (table : List ℕ) (before after : ℕ) (d
 
 -- of litres given as the answer, what they are, said outright
 abbrev pub ReadOffBoth : (dh step : ℕ) (table : List ℕ) (before after : ℕ) → DeliveredAnswer → Type 0
-ReadOffBoth dh step table before after (delivered_answers.Litres d) = Difference dh step table before after d
-ReadOffBoth dh step table before after (delivered_answers.Refused r) = Unit {0}
+ReadOffBoth dh step table before after (Ok d) = Difference dh step table before after d
+ReadOffBoth dh step table before after (Err r) = Unit {0}

@@ -19,16 +19,17 @@ pub enum DeliveredAnswer {
 }
 
 // The second answer less the first, or the first refusal of the two.
-fn second_less_first(first: LitresAnswer, second: LitresAnswer) -> DeliveredAnswer
+fn second_less_first(
+    first: Result<Volume, Refusal>,
+    second: Result<Volume, Refusal>,
+) -> Result<i64, Refusal>
     ensures { result ≡ delivered_by first second }
 {
     match first {
-        LitresAnswer::Refused(r) => DeliveredAnswer::Refused(r),
-        LitresAnswer::Litres(a) => match second {
-            LitresAnswer::Refused(r) => DeliveredAnswer::Refused(r),
-            LitresAnswer::Litres(b) => {
-                DeliveredAnswer::Litres(minus(b.units() as i64, a.units() as i64))
-            }
+        Err(r) => Err(r),
+        Ok(a) => match second {
+            Err(r) => Err(r),
+            Ok(b) => { Ok(minus(b.units() as i64, a.units() as i64)) }
         },
     }
 }
@@ -41,10 +42,10 @@ pub fn delivered(
     table: &[u32],
     before: DipHeight,
     after: DipHeight,
-) -> DeliveredAnswer
+) -> Result<i64, Refusal>
     ensures value { result ≡ delivered_answer dh step table.now (dip_units before) (dip_units after) }
     ensures read_off_both { ReadOffBoth dh step table.now (dip_units before) (dip_units after) result }
-    ensures exactly { Exactly (result ≡ DeliveredAnswer.Refused (refusal 12 0 (too_high (higher dh (dip_units before) (dip_units after)) dh))) (TooHigh dh step table.now (max (dip_units before) (dip_units after))) }
+    ensures exactly { Exactly (result ≡ Err (refusal 12 0 (too_high (higher dh (dip_units before) (dip_units after)) dh))) (TooHigh dh step table.now (max (dip_units before) (dip_units after))) }
 {
     second_less_first(
         litres_at(dh, step, table, before),

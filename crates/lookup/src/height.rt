@@ -41,18 +41,18 @@ fn lowest(dh: u32, step: u32, table: &[u32], w: u32, low: u32, high: u32) -> u32
 
 // On any table, for any volume: the whole answer; of a height, that it is the lowest with at least this volume; and that refusal 13,
 // about the two, is given exactly for a volume above the last row.
-pub fn height_for(dh: u32, step: u32, table: &[u32], volume: Volume) -> HeightAnswer
+pub fn height_for(dh: u32, step: u32, table: &[u32], volume: Volume) -> Result<DipHeight, Refusal>
     ensures value { result ≡ height_answer dh step table.now (volume_units volume) }
     ensures reached { Reached dh step table.now (volume_units volume) result }
-    ensures exactly { Exactly (result ≡ HeightAnswer.Refused (refusal 13 0 (too_much (volume_units volume) (last_row dh step table.now)))) (TooMuch dh step table.now (volume_units volume)) }
+    ensures exactly { Exactly (result ≡ Err (refusal 13 0 (too_much (volume_units volume) (last_row dh step table.now)))) (TooMuch dh step table.now (volume_units volume)) }
 {
     if !is_sound_table(dh, step, table) {
-        return HeightAnswer::Refused(unsound(dh, step));
+        return Err(unsound(dh, step));
     }
     let w = volume.units();
     let last = table[table.len() - 1];
     if last < w {
-        return HeightAnswer::Refused(too_much(w, last));
+        return Err(too_much(w, last));
     }
-    HeightAnswer::Height(DipHeight::of(lowest(dh, step, table, w, 0, dh)))
+    Ok(DipHeight::of(lowest(dh, step, table, w, 0, dh)))
 }

@@ -36,17 +36,17 @@ pub(crate) fn litres_inside(dh: u32, step: u32, table: &[u32], h: u32) -> u32
 
 // On any table, at any height: the whole answer; of a volume, that it is the row at a row's height, else on the line between the rows
 // below and above, and never falls with the height; and that refusal 12, about the two, is given exactly for a height above DH.
-pub fn litres_at(dh: u32, step: u32, table: &[u32], height: DipHeight) -> LitresAnswer
+pub fn litres_at(dh: u32, step: u32, table: &[u32], height: DipHeight) -> Result<Volume, Refusal>
     ensures value { result ≡ litres_answer dh step table.now (dip_units height) }
     ensures read_off { ReadOff dh step table.now (dip_units height) result }
-    ensures exactly { Exactly (result ≡ LitresAnswer.Refused (refusal 12 0 (too_high (dip_units height) dh))) (TooHigh dh step table.now (dip_units height)) }
+    ensures exactly { Exactly (result ≡ Err (refusal 12 0 (too_high (dip_units height) dh))) (TooHigh dh step table.now (dip_units height)) }
 {
     if !is_sound_table(dh, step, table) {
-        return LitresAnswer::Refused(unsound(dh, step));
+        return Err(unsound(dh, step));
     }
     let h = height.units();
     if dh < h {
-        return LitresAnswer::Refused(too_high(h, dh));
+        return Err(too_high(h, dh));
     }
-    LitresAnswer::Litres(Volume::of(litres_inside(dh, step, table, h)))
+    Ok(Volume::of(litres_inside(dh, step, table, h)))
 }

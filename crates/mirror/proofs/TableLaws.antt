@@ -1,10 +1,9 @@
 -- A survey and its table turned over, in the paper's words. Assumes nothing.
-use Rattle.std.specs.Prelude.{ℕ, ◌+◌, ◌-◌, ◌%◌, ◌≤◌, ◌<◌, ◌≡◌, List, nat_abs, length, get_or}
+use Rattle.std.specs.Prelude.{ℕ, ◌+◌, ◌-◌, ◌%◌, ◌≤◌, ◌<◌, ◌≡◌, List, nat_abs, length, get_or, Ok}
 use Rattle.std.proofs.Common.{◌∙◌, ap, subst, arith}
 use Rattle.measure.specs.declared.diameter.Diameter.{Diameter}
 use Rattle.measure.specs.Quantity.{diameter_units}
 use Rattle.schedule.specs.RowsLaws.{height_at_last, heights_mirrored}
-use Rattle.refusal.specs.declared.Verdict.TheVariants.{Passed}
 use Rattle.refusal.specs.Test.{verdict}
 use Rattle.refusal.specs.TestLaws.{passed_both}
 use Rattle.tank.specs.Tank.{gross_at}
@@ -25,7 +24,7 @@ use Rattle.mirror.proofs.GrossLaws.{gross_mirrored}
 
 -- E7, third law, of a survey that is accepted, with D1 = D2 = DH and heads of kind 0 or 1: at every dip height H from 0 to DH, a row's or not,
 -- gross at H and gross at DH - H together are the full gross within 3 v. What deadwood takes is not in the gross
-pub survey_mirrored : (s : List ℕ) → (decoded s).verdict ≡ Passed → let t = (decoded s).survey.tank in let dh = diameter_units t.dh in
+pub survey_mirrored : (s : List ℕ) → (decoded s).verdict ≡ Ok tt → let t = (decoded s).survey.tank in let dh = diameter_units t.dh in
     MirroredTank t → (h : ℕ) → h ≤ dh → Around mirror_tolerance (gross_at t h) (gross_at t (dh - h)) (gross_at t dh)
 survey_mirrored s accepted mirrors h high =
     let limits = decoded_fits s accepted in

@@ -1,11 +1,10 @@
 -- What a file whose numbers are all within their limits as they stand promises of them, as plain facts. Assumes nothing.
-use Rattle.std.specs.Prelude.{ℕ, ◌+◌, ◌≤◌, ◌<◌, ◌≡◌, List, [], ◌++◌, nat_abs}
+use Rattle.std.specs.Prelude.{ℕ, ◌+◌, ◌≤◌, ◌<◌, ◌≡◌, List, [], ◌++◌, nat_abs, Ok}
 use Rattle.std.proofs.Common.{arith}
 use Rattle.std.proofs.Math.ListN.{length}
 use Rattle.laws.specs.FillLaws.{length_rows_of, get_or_rows_of}
 use Rattle.measure.specs.Diameter.{smallest, largest}
 use Rattle.measure.specs.Quantity.{dip_units}
-use Rattle.refusal.specs.declared.Verdict.TheVariants.{Passed}
 use Rattle.refusal.specs.Test.{verdict}
 use Rattle.refusal.specs.TestLaws.{passed_all, passed_append, passed_items, within_pass}
 use Rattle.deadwood.specs.declared.item.Deadwood.{Deadwood}
@@ -31,29 +30,29 @@ use Rattle.numbers.specs.Tests.{header_tests, course_tests, item_tests, seam_tes
 -- a file whose numbers are all within their limits as they stand
 pub record LimitsFit (f : Format) (s : List ℕ) : Type 0 where
   pub placed : Placed f s
-  pub limits : verdict (limit_tests f s) ≡ Passed
+  pub limits : verdict (limit_tests f s) ≡ Ok tt
 
 module _ (f : Format) (s : List ℕ) (fit : LimitsFit f s) where
-  pub header_passed : verdict (header_tests s) ≡ Passed
+  pub header_passed : verdict (header_tests s) ≡ Ok tt
   header_passed = (passed_append (header_tests s) (sections_tests s (sections f s)) fit.limits).0
 
-  sections_passed : (verdict (section_tests s (courses f s)) ≡ Passed)
-      × (verdict (section_tests s (deadwood f s)) ≡ Passed)
-      × (verdict (section_tests s (seams f s)) ≡ Passed)
+  sections_passed : (verdict (section_tests s (courses f s)) ≡ Ok tt)
+      × (verdict (section_tests s (deadwood f s)) ≡ Ok tt)
+      × (verdict (section_tests s (seams f s)) ≡ Ok tt)
   sections_passed =
       let rest = (passed_append (header_tests s) (sections_tests s (sections f s)) fit.limits).1 in
       let of-courses = passed_append (section_tests s (courses f s)) (section_tests s (deadwood f s) ++ (section_tests s (seams f s) ++ [])) rest in
       let of-deadwood = passed_append (section_tests s (deadwood f s)) (section_tests s (seams f s) ++ []) of-courses.1 in
       (of-courses.0, of-deadwood.0, (passed_append (section_tests s (seams f s)) [] of-deadwood.1).0)
 
-  pub course_passes : (i : ℕ) → i < (courses f s).count → verdict (course_tests s (record_of (courses f s) i)) ≡ Passed
+  pub course_passes : (i : ℕ) → i < (courses f s).count → verdict (course_tests s (record_of (courses f s) i)) ≡ Ok tt
   course_passes i l = passed_items (courses f s).count (λ k. course_tests s (record_of (courses f s) k)) sections_passed.0 i l
 
   -- the item whose record is number i
   listed : ℕ → Deadwood
   listed i = item_from s (record_at (deadwood f s) i)
 
-  pub item_passes : (i : ℕ) → i < (deadwood f s).count → verdict (item_tests s (record_of (deadwood f s) i)) ≡ Passed
+  pub item_passes : (i : ℕ) → i < (deadwood f s).count → verdict (item_tests s (record_of (deadwood f s) i)) ≡ Ok tt
   item_passes i l = passed_items (deadwood f s).count (λ k. item_tests s (record_of (deadwood f s) k)) sections_passed.1 i l
 
   pub items_fit : DeadwoodLimits (items_of f s)

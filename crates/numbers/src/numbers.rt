@@ -1,6 +1,6 @@
 // Refusal 5: every number of the file within its limits as it stands, in the header, then in the sections' records.
 ghost use Rattle.std.specs.Prelude.{◌≡◌, [], ◌∷◌};
-ghost use Rattle.refusal.specs.Test.{verdict};
+ghost use Rattle.refusal.specs.Test.{verdict, Verdict};
 ghost use Rattle.file.specs.Section.{sections};
 ghost use Rattle.file.specs.SectionLaws.{Readable, Inside};
 ghost use Rattle.form.specs.PlacedLaws.{Placed};
@@ -11,17 +11,17 @@ use crate::record_tests::record_tested;
 use file::format::Format;
 use file::section::{Section, courses, deadwood, seams};
 use records::record::record_of;
-use refusal::{Verdict, first_refusal};
+use refusal::{Refusal, first_refusal};
 
 // The numbers of a section, record by record.
-fn section_tested(section: Section, s: &[u8]) -> Verdict
+fn section_tested(section: Section, s: &[u8]) -> Result<(), Refusal>
     requires { Inside s.now section }
     ensures { result ≡ verdict (section_tests s.now section) }
 {
     let x = section;
     let records = x.records;
     let count = x.count;
-    let mut v = Verdict::Passed;
+    let mut v = Ok(());
     let mut i: usize = 0;
     while i < count {
         v = record_tested(records, v, s, record_of(x, i));
@@ -31,7 +31,7 @@ fn section_tested(section: Section, s: &[u8]) -> Verdict
 }
 
 // .. of three sections, one after the other.
-fn sections_tested(x: Section, y: Section, z: Section, s: &[u8]) -> Verdict
+fn sections_tested(x: Section, y: Section, z: Section, s: &[u8]) -> Result<(), Refusal>
     requires { Inside s.now x × Inside s.now y × Inside s.now z }
     ensures { result ≡ verdict (sections_tests s.now (x ∷ y ∷ z ∷ [])) }
 {
@@ -42,7 +42,7 @@ fn sections_tested(x: Section, y: Section, z: Section, s: &[u8]) -> Verdict
 }
 
 // .. of all sections of a file.
-fn records_tested(f: Format, s: &[u8]) -> Verdict
+fn records_tested(f: Format, s: &[u8]) -> Result<(), Refusal>
     requires { Readable f × Placed f s.now }
     ensures { result ≡ verdict (sections_tests s.now (sections f s.now)) }
 {
@@ -50,7 +50,7 @@ fn records_tested(f: Format, s: &[u8]) -> Verdict
 }
 
 // All numbers, as they stand, of a file whose sections are well placed.
-pub fn limits_tested(f: Format, s: &[u8]) -> Verdict
+pub fn limits_tested(f: Format, s: &[u8]) -> Result<(), Refusal>
     requires { Readable f × Placed f s.now }
     ensures { result ≡ verdict (limit_tests f s.now) }
 {

@@ -1,6 +1,6 @@
 // Refusal 5 of a record's numbers.
 ghost use Rattle.std.specs.Prelude.{◌≡◌, [], ◌∷◌, length, ◌+◌, ◌^◌, ◌≤◌, ◌<◌};
-ghost use Rattle.refusal.specs.Test.{verdict, first_refusal};
+ghost use Rattle.refusal.specs.Test.{verdict, first_refusal, Verdict};
 ghost use Rattle.file.specs.Layout.{header_end, course_end, item_end, seam_end};
 ghost use Rattle.file.specs.Section.{record_long};
 ghost use Rattle.records.specs.RecordLaws.{Whole};
@@ -13,13 +13,13 @@ use file::section::Records;
 use file::word::word;
 use records::item::item_from;
 use records::record::{Record, limit};
-use refusal::{About, Verdict, about_of, next_test};
+use refusal::{About, Refusal, about_of, next_test};
 use seams::seam::{MOST_SEAMS, THICKEST_SEAM, WIDEST_SEAM};
 use tank::limits::LONGEST_SHELL;
 
 // The verdict so far, and then the numbers of a course.
 #[tactic(auto, unfolding(crate::specs::Tests::course_tests))]
-fn course_tested(so_far: Verdict, s: &[u8], x: Record) -> Verdict
+fn course_tested(so_far: Result<(), Refusal>, s: &[u8], x: Record) -> Result<(), Refusal>
     requires { Whole s.now x course_end }
     ensures { result ≡ first_refusal so_far (verdict (course_tests s.now x)) }
 {
@@ -40,7 +40,12 @@ fn course_tested(so_far: Verdict, s: &[u8], x: Record) -> Verdict
 }
 
 // The verdict so far, and then the heights of a deadwood item. Where they do not fit, the high one is the bad number.
-fn heights_tested(so_far: Verdict, item: Deadwood, dh: u32, x: Record) -> Verdict
+fn heights_tested(
+    so_far: Result<(), Refusal>,
+    item: Deadwood,
+    dh: u32,
+    x: Record,
+) -> Result<(), Refusal>
     requires { (x.at + item_end < 2 ^ 32) × (x.sentence + item_end < 2 ^ 32) }
     ensures { result ≡ first_refusal so_far (verdict (heights_test item dh x ∷ [])) }
 {
@@ -52,7 +57,7 @@ fn heights_tested(so_far: Verdict, item: Deadwood, dh: u32, x: Record) -> Verdic
 }
 
 // The verdict so far, and then its volume.
-fn volume_tested(so_far: Verdict, item: Deadwood, x: Record) -> Verdict
+fn volume_tested(so_far: Result<(), Refusal>, item: Deadwood, x: Record) -> Result<(), Refusal>
     requires { (x.at + item_end < 2 ^ 32) × (x.sentence + item_end < 2 ^ 32) }
     ensures { result ≡ first_refusal so_far (verdict (volume_test item x ∷ [])) }
 {
@@ -69,7 +74,7 @@ fn volume_tested(so_far: Verdict, item: Deadwood, x: Record) -> Verdict
 
 // The verdict so far, and then the numbers of a deadwood item.
 #[tactic(auto, unfolding(crate::specs::Tests::item_tests))]
-fn item_tested(so_far: Verdict, s: &[u8], x: Record) -> Verdict
+fn item_tested(so_far: Result<(), Refusal>, s: &[u8], x: Record) -> Result<(), Refusal>
     requires { (header_end ≤ length s.now) × Whole s.now x item_end }
     ensures { result ≡ first_refusal so_far (verdict (item_tests s.now x)) }
 {
@@ -80,7 +85,7 @@ fn item_tested(so_far: Verdict, s: &[u8], x: Record) -> Verdict
 
 // The verdict so far, and then the numbers of a seam item.
 #[tactic(auto, unfolding(crate::specs::Tests::seam_tests))]
-fn seam_tested(so_far: Verdict, s: &[u8], x: Record) -> Verdict
+fn seam_tested(so_far: Result<(), Refusal>, s: &[u8], x: Record) -> Result<(), Refusal>
     requires { Whole s.now x seam_end }
     ensures { result ≡ first_refusal so_far (verdict (seam_tests s.now x)) }
 {
@@ -90,7 +95,12 @@ fn seam_tested(so_far: Verdict, s: &[u8], x: Record) -> Verdict
 }
 
 // The verdict so far, and then the numbers of a record.
-pub fn record_tested(records: Records, so_far: Verdict, s: &[u8], x: Record) -> Verdict
+pub fn record_tested(
+    records: Records,
+    so_far: Result<(), Refusal>,
+    s: &[u8],
+    x: Record,
+) -> Result<(), Refusal>
     requires { (header_end ≤ length s.now) × Whole s.now x (record_long records) }
     ensures { result ≡ first_refusal so_far (verdict (record_tests records s.now x)) }
 {

@@ -1,7 +1,6 @@
 -- What courses within their limits promise, as plain facts. Assumes nothing.
-use Rattle.std.specs.Prelude.{ℕ, ◌+◌, ◌≤◌, ◌<◌, ◌≡◌, List}
+use Rattle.std.specs.Prelude.{ℕ, ◌+◌, ◌≤◌, ◌<◌, ◌≡◌, List, Ok}
 use Rattle.std.proofs.Common.{arith}
-use Rattle.refusal.specs.declared.Verdict.TheVariants.{Passed}
 use Rattle.refusal.specs.Test.{verdict}
 use Rattle.refusal.specs.TestLaws.{passed_all, within_pass}
 use Rattle.tank.specs.Limits.{longest_shell}
@@ -25,7 +24,7 @@ pub record CourseFits (s : List ℕ) (at rise : ℕ) : Type 0 where
   pub long : word s (at + length_in) ≤ longest_shell
   pub thick : word s (at + thickness_in) ≤ thickest
 
-pub course_fits : (s : List ℕ) (x : Record) (rise : ℕ) → verdict (course_tests s x) ≡ Passed → verdict (reading_tests s x rise) ≡ Passed
+pub course_fits : (s : List ℕ) (x : Record) (rise : ℕ) → verdict (course_tests s x) ≡ Ok tt → verdict (reading_tests s x rise) ≡ Ok tt
     → CourseFits s x.at rise
 unfolding course_tests reading_tests
 course_fits s x rise e corrects =

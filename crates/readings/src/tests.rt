@@ -1,6 +1,6 @@
 // Refusal 5: every number of the file as it stands, and then the readings that have lost the tape rise.
 ghost use Rattle.std.specs.Prelude.{◌≡◌, [], ◌∷◌, ◌+◌, ◌≤◌, ◌<◌};
-ghost use Rattle.refusal.specs.Test.{verdict, first_refusal};
+ghost use Rattle.refusal.specs.Test.{verdict, first_refusal, Verdict};
 ghost use Rattle.file.specs.Layout.{course_end};
 ghost use Rattle.file.specs.SectionLaws.{Readable};
 ghost use Rattle.records.specs.RecordLaws.{Whole};
@@ -15,11 +15,17 @@ use file::section::courses;
 use numbers::limits::{LONGEST_CIRCUMFERENCE, SHORTEST_CIRCUMFERENCE};
 use numbers::numbers::limits_tested;
 use records::record::{Record, number_tested, record_of};
-use refusal::Verdict;
+use refusal::Refusal;
 use sentences::OF_CORRECTED;
 
 // The verdict so far, and then the reading at byte k of a course.
-fn reading_tested(so_far: Verdict, s: &[u8], x: Record, k: usize, rise: u64) -> Verdict
+fn reading_tested(
+    so_far: Result<(), Refusal>,
+    s: &[u8],
+    x: Record,
+    k: usize,
+    rise: u64,
+) -> Result<(), Refusal>
     requires { Whole s.now x course_end × (k + 4 ≤ course_end) }
     ensures { result ≡ first_refusal so_far (verdict (reading_test s.now x k rise ∷ [])) }
 {
@@ -35,7 +41,12 @@ fn reading_tested(so_far: Verdict, s: &[u8], x: Record, k: usize, rise: u64) -> 
 
 // The verdict so far, and then both readings of a course.
 #[tactic(auto, unfolding(crate::specs::Tests::reading_tests))]
-fn course_readings_tested(so_far: Verdict, s: &[u8], x: Record, rise: u64) -> Verdict
+fn course_readings_tested(
+    so_far: Result<(), Refusal>,
+    s: &[u8],
+    x: Record,
+    rise: u64,
+) -> Result<(), Refusal>
     requires { Whole s.now x course_end }
     ensures { result ≡ first_refusal so_far (verdict (reading_tests s.now x rise)) }
 {
@@ -44,13 +55,13 @@ fn course_readings_tested(so_far: Verdict, s: &[u8], x: Record, rise: u64) -> Ve
 }
 
 // The readings of all courses, course by course.
-pub(crate) fn readings_tested(f: Format, s: &[u8]) -> Verdict
+pub(crate) fn readings_tested(f: Format, s: &[u8]) -> Result<(), Refusal>
     requires { Readable f × LimitsFit f s.now }
     ensures { result ≡ verdict (corrected_tests f s.now) }
 {
     let x = courses(f, s);
     let count = x.count;
-    let mut v = Verdict::Passed;
+    let mut v = Ok(());
     let mut i: usize = 0;
     while i < count {
         v = course_readings_tested(v, s, record_of(x, i), rise_of(f, s, i));
@@ -60,13 +71,13 @@ pub(crate) fn readings_tested(f: Format, s: &[u8]) -> Verdict
 }
 
 // Of a file whose sections are well placed, all of refusal 5.
-pub fn numbers_tested(f: Format, s: &[u8]) -> Verdict
+pub fn numbers_tested(f: Format, s: &[u8]) -> Result<(), Refusal>
     requires { Readable f × Placed f s.now }
     ensures { result ≡ verdict (number_tests f s.now) }
 {
     let v = limits_tested(f, s);
     match v {
-        Verdict::Refused(r) => Verdict::Refused(r),
-        Verdict::Passed => readings_tested(f, s),
+        Err(r) => Err(r),
+        Ok(()) => readings_tested(f, s),
     }
 }

@@ -1,11 +1,9 @@
 -- Document 01, 'Refusal numbers, tested in this order': a test has the refusal's number, its place, whether it passes, and what it is about;
 -- the verdict on a list of tests is the first that fails, with all of it. Assumes nothing.
-use Rattle.std.specs.Prelude.{ℕ, zero, suc, ◌+◌, Bool, ◌&&◌, ◌||◌, List, [], ◌∷◌, ◌++◌, leb, pos}
+use Rattle.std.specs.Prelude.{ℕ, zero, suc, ◌+◌, Bool, ◌&&◌, ◌||◌, List, [], ◌∷◌, ◌++◌, leb, pos, Result, Ok, Err}
 use Rattle.laws.specs.Order.{pick}
 use Rattle.refusal.specs.declared.About.{About}
 use Rattle.refusal.specs.declared.Refusal.{Refusal}
-use Rattle.refusal.specs.declared.Verdict.{Verdict}
-use Rattle.refusal.specs.declared.Verdict.TheVariants.{Passed, Refused}
 
 -- what a test is about: the sentence that says it, the record or row that it counts, the number that is tested, and its limits
 abbrev pub about : (sentence item value low high : ℕ) → About
@@ -35,10 +33,14 @@ limited number place sentence item low x high = test number place (within low x 
 abbrev pub refusal_of : Test → Refusal
 refusal_of t = refusal t.number t.place t.about
 
+-- what tests come to: nothing, or the refusal of the first that fails
+abbrev pub Verdict : Type 0
+Verdict = Result (Unit {0}) Refusal
+
 -- the first test that fails, if any does
 abbrev pub verdict : List Test → Verdict
-verdict [] = Passed
-verdict (t ∷ ts) = pick t.passes (verdict ts) (Refused (refusal_of t))
+verdict [] = Ok tt
+verdict (t ∷ ts) = pick t.passes (verdict ts) (Err (refusal_of t))
 
 -- the tests of items 0 to n - 1, in their order
 unfoldable pub items : ℕ → (ℕ → List Test) → List Test
@@ -55,5 +57,5 @@ near x y most = leb y (x + most) && leb x (y + most)
 
 -- the verdict on two lists in a row: the first's where that refuses
 abbrev pub first_refusal : Verdict → Verdict → Verdict
-first_refusal Passed v = v
-first_refusal (Refused r) v = Refused r
+first_refusal (Ok tt) v = v
+first_refusal (Err r) v = Err r

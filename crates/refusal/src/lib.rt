@@ -1,4 +1,4 @@
-// A refusal as the papers number it and what it is about, the verdict of tests in their order, and verdicts put together. What is
+// A refusal as the papers number it and what it is about, one test, and two verdicts put together. Tests in a row are joined by `?`. What is
 // refused, and when, is said where the tests stand.
 #![tactic(auto)]
 
@@ -28,12 +28,6 @@ pub struct Refusal {
     pub about: About,
 }
 
-#[derive(Clone, Copy)]
-pub enum Verdict {
-    Passed,
-    Refused(Refusal),
-}
-
 // What a test of a number without a sign is about.
 pub fn about_of(sentence: u32, item: u32, value: u64, low: u32, high: u32) -> About
     requires { value < 2 ^ 63 }
@@ -48,14 +42,14 @@ pub fn about_of(sentence: u32, item: u32, value: u64, low: u32, high: u32) -> Ab
     }
 }
 
-// The verdict of one test, by its number, its place and what it is about.
-pub fn one_test(number: u32, place: u32, passes: bool, about: About) -> Verdict
+// One test, by its number, its place and what it is about.
+pub fn one_test(number: u32, place: u32, passes: bool, about: About) -> Result<(), Refusal>
     ensures { result ≡ verdict (test number place passes about ∷ []) }
 {
     if passes {
-        Verdict::Passed
+        Ok(())
     } else {
-        Verdict::Refused(Refusal {
+        Err(Refusal {
             number,
             place,
             about,
@@ -63,26 +57,8 @@ pub fn one_test(number: u32, place: u32, passes: bool, about: About) -> Verdict
     }
 }
 
-// The first verdict where that refuses, else the second.
-pub fn first_refusal(first: Verdict, second: Verdict) -> Verdict
-    ensures { result ≡ first_refusal first second }
-{
-    match first {
-        Verdict::Passed => second,
-        Verdict::Refused(r) => Verdict::Refused(r),
-    }
-}
-
-// The verdict so far, and then one test more.
-pub fn next_test(so_far: Verdict, number: u32, place: u32, passes: bool, about: About) -> Verdict
-    ensures { result ≡ first_refusal so_far (verdict (test number place passes about ∷ [])) }
-{
-    first_refusal(so_far, one_test(number, place, passes, about))
-}
-
 // .. of a number, which is told with the limits that it is tested by.
-pub fn next_limited(
-    so_far: Verdict,
+pub fn limited(
     number: u32,
     place: u32,
     sentence: u32,
@@ -90,16 +66,23 @@ pub fn next_limited(
     low: u32,
     value: u64,
     high: u32,
-) -> Verdict
+) -> Result<(), Refusal>
     requires { value < 2 ^ 63 }
-    ensures { result ≡ first_refusal so_far (verdict (limited number place sentence item low value high ∷ [])) }
+    ensures { result ≡ verdict (limited number place sentence item low value high ∷ []) }
 {
     let passes = is_within(low as u64, value, high as u64);
-    next_test(
-        so_far,
+    one_test(
         number,
         place,
         passes,
         about_of(sentence, item, value, low, high),
     )
+}
+
+// The first verdict where that refuses, else the second: of two that are in hand.
+pub fn first_refusal(first: Result<(), Refusal>, second: Result<(), Refusal>) -> Result<(), Refusal>
+    ensures { result ≡ first_refusal first second }
+{
+    first?;
+    second
 }

@@ -1,13 +1,12 @@
 -- A file that is not refused, written anew, is not refused either, and has the same survey. Assumes nothing.
 use Prim.Native.Nat.{ℕ, zero, suc, ◌+◌, ◌*◌, ◌^◌, ◌≤◌, ◌<◌}
-use Rattle.std.specs.Prelude.{◌≡◌, refl, true, false, List, [], ◌++◌, eqb, ltb, length, get_or, take}
+use Rattle.std.specs.Prelude.{◌≡◌, refl, true, false, List, [], ◌++◌, eqb, ltb, length, get_or, take, Ok}
 use Rattle.std.proofs.Math.Path.{sym, ap, ap₂}
 use Rattle.std.proofs.Common.{◌∙◌, zero-add, add_assoc, le-leb, le-ltb, ne_eqb, length-take, length-drop, length-take-le}
 use native.Mathlib.Omega.{arith}
 use Rattle.std.proofs.Math.ListN.{length-append}
 use Rattle.std.proofs.lemmas.List.{length-replicate}
 use Rattle.laws.specs.BoolLaws.{true_not_false, by_test}
-use Rattle.refusal.specs.declared.Verdict.TheVariants.{Passed}
 use Rattle.refusal.specs.Test.{Test, verdict, within}
 use Rattle.refusal.specs.TestLaws.{verdict_append, all_passed}
 use Rattle.heads.specs.Kind.{kind_known}
@@ -48,7 +47,7 @@ section_long s x inside = by_count x.count refl
     by_count (suc n) e = rw (length-take, length-drop, e) (omega (arith, inside.inside n (omega arith)))
 
 -- a list of tests passes where both its parts do
-both_passed : (ts us : List Test) → verdict ts ≡ Passed → verdict us ≡ Passed → verdict (ts ++ us) ≡ Passed
+both_passed : (ts us : List Test) → verdict ts ≡ Ok tt → verdict us ≡ Ok tt → verdict (ts ++ us) ≡ Ok tt
 both_passed ts us e h = verdict_append ts us ∙ rw (e, h)
 
 -- a section that is not empty stands where it is put
@@ -262,10 +261,10 @@ module _ (s : List ℕ) (fit : Placed format48 s) where
 
   -- refusals 1 to 4 are not given
 
-  size_passes : verdict (size_tests today t) ≡ Passed
+  size_passes : verdict (size_tests today t) ≡ Ok tt
   size_passes = rw (le-leb (length t) largest_file (omega (arith, rewritten_short)), le-leb today.header (length t) (omega (arith, rewritten_long)))
 
-  layout_passes : kind_known (word s kind_at) ≡ true → verdict (layout_tests today t) ≡ Passed
+  layout_passes : kind_known (word s kind_at) ≡ true → verdict (layout_tests today t) ≡ Ok tt
   unfolding layout_tests
   layout_passes known =
       let of-courses = new_courses in
@@ -285,8 +284,8 @@ module _ (s : List ℕ) (fit : Placed format48 s) where
       )
 
 -- a file that is not refused
-module _ (s : List ℕ) (accepted : (decoded_as format48 s).verdict ≡ Passed) where
-  e : verdict (file_tests format48 s) ≡ Passed
+module _ (s : List ℕ) (accepted : (decoded_as format48 s).verdict ≡ Ok tt) where
+  e : verdict (file_tests format48 s) ≡ Ok tt
   e = sym (decoded_as_verdict format48 s) ∙ accepted
 
   fits : NumbersFit format48 s
@@ -312,35 +311,35 @@ module _ (s : List ℕ) (accepted : (decoded_as format48 s).verdict ≡ Passed) 
   old_item : (i : ℕ) → i < (deadwood today new).count → i < (deadwood format48 s).count
   old_item i l = omega (arith, same.deadwood_count)
 
-  courses_pass : verdict (section_tests new (courses today new)) ≡ Passed
+  courses_pass : verdict (section_tests new (courses today new)) ≡ Ok tt
   courses_pass =
       all_passed (courses today new).count (λ i. course_tests new (record_of (courses today new) i))
       (λ i l. course_passes_too format48 s today new same i (old_course i l) (course_passes format48 s (as_they_stand format48 s fits) i (old_course i l)))
 
-  deadwood_passes : verdict (section_tests new (deadwood today new)) ≡ Passed
+  deadwood_passes : verdict (section_tests new (deadwood today new)) ≡ Ok tt
   deadwood_passes =
       all_passed (deadwood today new).count (λ i. item_tests new (record_of (deadwood today new) i))
       (λ i l. item_passes_too format48 s today new same i (old_item i l) (item_passes format48 s (as_they_stand format48 s fits) i (old_item i l)))
 
-  seams_pass : verdict (section_tests new (seams today new)) ≡ Passed
+  seams_pass : verdict (section_tests new (seams today new)) ≡ Ok tt
   unfolding seam_tests
   seams_pass =
       let none = seam_words s fits.placed in
       all_passed (seams today new).count (λ i. seam_tests new (record_of (seams today new) i))
       (λ i l. rw (none i seam_number_in, none i seam_thickness_in, none i seam_width_in))
 
-  readings_pass : verdict (corrected_tests today new) ≡ Passed
+  readings_pass : verdict (corrected_tests today new) ≡ Ok tt
   readings_pass =
       all_passed (courses today new).count (λ i. reading_tests new (record_of (courses today new) i) (rise_of today new i))
       (λ i l. reading_passes_too format48 s today new same i (old_course i l) (reading_passes format48 s fits i (old_course i l)))
 
-  sections_pass : verdict (sections_tests new (sections today new)) ≡ Passed
+  sections_pass : verdict (sections_tests new (sections today new)) ≡ Ok tt
   sections_pass =
       both_passed (section_tests new (courses today new)) (section_tests new (deadwood today new) ++ (section_tests new (seams today new) ++ [])) courses_pass
       (both_passed (section_tests new (deadwood today new)) (section_tests new (seams today new) ++ []) deadwood_passes
       (both_passed (section_tests new (seams today new)) [] seams_pass refl))
 
-  numbers_pass : verdict (number_tests today new) ≡ Passed
+  numbers_pass : verdict (number_tests today new) ≡ Ok tt
   numbers_pass =
       let header = ap verdict (sym (same_header_tests format48 s today new same)) ∙ header_passed format48 s (as_they_stand format48 s fits) in
       both_passed (limit_tests today new) (corrected_tests today new)
@@ -348,7 +347,7 @@ module _ (s : List ℕ) (accepted : (decoded_as format48 s).verdict ≡ Passed) 
       readings_pass
 
   -- it is not refused ..
-  rewritten_passes : verdict (file_tests today new) ≡ Passed
+  rewritten_passes : verdict (file_tests today new) ≡ Ok tt
   unfolding file_tests
   rewritten_passes =
       let dimensions = ap verdict (sym (same_dimension_tests format48 s today new same)) ∙ (passed_file format48 s format48_readable e).1 in

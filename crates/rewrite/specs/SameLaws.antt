@@ -1,12 +1,11 @@
 -- Two files, each in its format, that hold the same numbers have the same survey; and what is tested of the one's numbers passes for the
 -- other's. Where a number stands in its file is not asked. Assumes nothing.
 use Prim.Native.Nat.{ℕ, zero, suc, ◌+◌, ◌≤◌, ◌<◌}
-use Rattle.std.specs.Prelude.{◌≡◌, List}
+use Rattle.std.specs.Prelude.{◌≡◌, List, Ok}
 use Rattle.std.proofs.Math.Path.{refl, ap}
 use Rattle.std.proofs.Common.{sym, ◌∙◌, le_refl, arith}
 use Rattle.laws.specs.Fill.{rows_of}
 use Rattle.laws.specs.FillLaws.{rows_of_agree}
-use Rattle.refusal.specs.declared.Verdict.TheVariants.{Passed}
 use Rattle.refusal.specs.Test.{verdict}
 use Rattle.refusal.specs.TestLaws.{passed_all}
 use Rattle.deadwood.specs.Item.{heights_fit, volume_fits}
@@ -118,7 +117,7 @@ module _ (f : Format) (s : List ℕ) (g : Format) (t : List ℕ) (same : SameNum
       )
 
   module _ (i : ℕ) (l : i < (courses f s).count) where
-    pub course_passes_too : verdict (course_tests s (record_of (courses f s) i)) ≡ Passed → verdict (course_tests t (record_of (courses g t) i)) ≡ Passed
+    pub course_passes_too : verdict (course_tests s (record_of (courses f s) i)) ≡ Ok tt → verdict (course_tests t (record_of (courses g t) i)) ≡ Ok tt
     unfolding course_tests
     course_passes_too e =
         let pass = passed_all (course_tests s (record_of (courses f s) i)) e in
@@ -133,15 +132,15 @@ module _ (f : Format) (s : List ℕ) (g : Format) (t : List ℕ) (same : SameNum
           pass.1.1.1.0,
         )
 
-    pub reading_passes_too : verdict (reading_tests s (record_of (courses f s) i) (rise_of f s i)) ≡ Passed
-        → verdict (reading_tests t (record_of (courses g t) i) (rise_of g t i)) ≡ Passed
+    pub reading_passes_too : verdict (reading_tests s (record_of (courses f s) i) (rise_of f s i)) ≡ Ok tt
+        → verdict (reading_tests t (record_of (courses g t) i) (rise_of g t i)) ≡ Ok tt
     unfolding reading_tests
     reading_passes_too e =
         let pass = passed_all (reading_tests s (record_of (courses f s) i) (rise_of f s i)) e in
         rw (← same.rise i, ← same.course i first_in l (omega arith), ← same.course i second_in l (omega arith), pass.0, pass.1.0)
 
   pub item_passes_too : (i : ℕ) → i < (deadwood f s).count
-      → verdict (item_tests s (record_of (deadwood f s) i)) ≡ Passed → verdict (item_tests t (record_of (deadwood g t) i)) ≡ Passed
+      → verdict (item_tests s (record_of (deadwood f s) i)) ≡ Ok tt → verdict (item_tests t (record_of (deadwood g t) i)) ≡ Ok tt
   unfolding item_tests
   item_passes_too i l e =
       let pass = passed_all (item_tests s (record_of (deadwood f s) i)) e in

@@ -1,15 +1,13 @@
 -- The tests of a table look at nothing but the rows, in memory or not, and their numbers are in use; and what they say where they refuse nothing: no
 -- row falls, and none is below zero, though none is tested for that. Assumes nothing.
-use Rattle.std.specs.Prelude.{ℕ, zero, suc, ◌-◌, ◌≤◌, ◌<◌, ◌≡◌, refl, true, List, ◌++◌, leb, ℤ, pos, negsuc, nat_abs, drop}
+use Rattle.std.specs.Prelude.{ℕ, zero, suc, ◌-◌, ◌≤◌, ◌<◌, ◌≡◌, refl, true, List, ◌++◌, leb, ℤ, pos, negsuc, nat_abs, drop, Ok, Err}
 use Rattle.std.proofs.Common.{sym, ap, arith, le-leb, leb-true}
 use Rattle.std.specs.Int.Signed.{le_z, non_neg}
 use Rattle.laws.specs.Fill.{rows_of}
 use Rattle.laws.specs.FillLaws.{rows_of_agree}
 use Rattle.laws.specs.BoolLaws.{true_not_false}
 use Rattle.refusal.specs.declared.Refusal.{Refusal}
-use Rattle.refusal.specs.declared.Verdict.{Verdict}
-use Rattle.refusal.specs.declared.Verdict.TheVariants.{Passed, Refused}
-use Rattle.refusal.specs.Test.{about, verdict, items}
+use Rattle.refusal.specs.Test.{about, verdict, items, Verdict}
 use Rattle.refusal.specs.TestLaws.{passed_pick, passed_items, passed_all, items_agree}
 use Rattle.refusal.specs.EachLaws.{each_item, refused_each}
 use Rattle.sentences.specs.Sentences.{of_falling_row, told}
@@ -33,7 +31,7 @@ unfolding row_tests
 room_enough row height rows cells room = rw (le-leb rows cells room)
 
 -- .. and where nothing is refused it is
-pub room_told : (row : ℕ → ℤ) (height : ℕ → ℕ) (rows cells : ℕ) → verdict (row_tests row height rows cells) ≡ Passed → rows ≤ cells
+pub room_told : (row : ℕ → ℤ) (height : ℕ → ℕ) (rows cells : ℕ) → verdict (row_tests row height rows cells) ≡ Ok tt → rows ≤ cells
 unfolding row_tests
 room_told row height rows cells e = leb-true rows cells (passed_pick (leb rows cells) (verdict (items rows (fall_test row height))) _ e).0
 
@@ -54,9 +52,9 @@ front_tests f height n rest cells =
 -- the cells of rows at the front of a list in memory are those of the rows
 pub front_left : (v : Verdict) (f : ℕ → ℤ) (n : ℕ) (rest : List ℤ) (table : List ℕ)
     → left_by v (cell_in (rows_of f n ++ rest)) n table ≡ left_by v (λ i. nat_abs (f i)) n table
-front_left Passed f n rest table =
+front_left (Ok tt) f n rest table =
     ap (λ l. l ++ drop n table) (rows_of_agree (cell_in (rows_of f n ++ rest)) (λ i. nat_abs (f i)) n (λ i l. ap nat_abs (front_row f n rest i l)))
-front_left (Refused r) f n rest table = refl
+front_left (Err r) f n rest table = refl
 
 -- every refusal of rows has a number in use and a sentence
 pub rows_known : (v : Survey) (cells : ℕ) → KnownIn (verdict (table_tests v cells))
@@ -68,7 +66,7 @@ rows_known v cells = verdict_known (table_tests v cells) (refl, each_item Known 
 abbrev FallTold : Survey → Refusal → Type 0
 FallTold v r = r.number ≡ 9 → r.about ≡ about of_falling_row r.place (height_of v r.place) 0 0
 
-pub fall_told : (v : Survey) (cells : ℕ) (r : Refusal) → verdict (table_tests v cells) ≡ Refused r → FallTold v r
+pub fall_told : (v : Survey) (cells : ℕ) (r : Refusal) → verdict (table_tests v cells) ≡ Err r → FallTold v r
 unfolding row_tests
 fall_told v cells =
     refused_each (FallTold v) (table_tests v cells)
@@ -80,7 +78,7 @@ not_below_zero_again (pos m) (negsuc n) a e = absurd (true_not_false (sym e))
 not_below_zero_again (negsuc m) z a e = absurd (true_not_false (sym a))
 
 -- of a table that is made, no net row is below the row before ..
-module _ (v : Survey) (cells : ℕ) (e : verdict (table_tests v cells) ≡ Passed) where
+module _ (v : Survey) (cells : ℕ) (e : verdict (table_tests v cells) ≡ Ok tt) where
   pub none_falls : (i : ℕ) → i < rows_in v → keeps_up (net_row v) i ≡ true
   unfolding row_tests
   none_falls i l =

@@ -1,7 +1,7 @@
 // Net rows that are tested and then copied to the front of a lent table, once nothing is left to refuse.
 ghost use Rattle.std.specs.Prelude.{◌≡◌, ◌++◌, ℕ, ◌^◌, ◌≤◌, ◌<◌, length, drop};
 ghost use Rattle.laws.specs.Fill.{rows_of};
-ghost use Rattle.refusal.specs.Test.{verdict};
+ghost use Rattle.refusal.specs.Test.{verdict, Verdict};
 ghost use Rattle.schedule.specs.Rows.{row_count, row_height};
 ghost use Rattle.rows.specs.RowLaws.{net_of, cell_in};
 ghost use Rattle.row_tests.specs.Tests.{row_tests};
@@ -9,7 +9,7 @@ ghost use Rattle.row_tests.specs.Left.{left_by};
 
 use crate::tests::rows_tested;
 use arith::signed;
-use refusal::Verdict;
+use refusal::Refusal;
 
 // The rows fit their cells.
 fn copy_rows(net: &[i64], rows: usize, table: &mut [u32])
@@ -24,17 +24,23 @@ fn copy_rows(net: &[i64], rows: usize, table: &mut [u32])
 }
 
 // Refusals 8 and 9 on rows in memory; a table that is refused is not touched.
-pub fn test_and_copy(net: &[i64], dh: u32, step: u32, rows: usize, table: &mut [u32]) -> Verdict
+pub fn test_and_copy(
+    net: &[i64],
+    dh: u32,
+    step: u32,
+    rows: usize,
+    table: &mut [u32],
+) -> Result<(), Refusal>
     requires { (rows ≤ length net.now) × (rows < 2 ^ 32) × (0 < step) × (rows ≡ row_count dh step) × ((i : ℕ) → i < rows → cell_in net.now i < 2 ^ 32) }
     ensures value { result ≡ verdict (row_tests (net_of net.now) (row_height dh step) rows (length table.old)) }
     ensures table_after { table.new ≡ left_by result (cell_in net.now) rows table.old }
 {
     let v = rows_tested(net, dh, step, rows, table.len());
     match v {
-        Verdict::Refused(r) => Verdict::Refused(r),
-        Verdict::Passed => {
+        Err(r) => Err(r),
+        Ok(()) => {
             copy_rows(net, rows, table);
-            Verdict::Passed
+            Ok(())
         }
     }
 }

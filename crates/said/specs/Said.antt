@@ -1,17 +1,12 @@
 -- What is said of an answer in hand: on standard output a table, a lookup's answer or the line of a refusal, as document 01 has them; on
 -- standard error, beside a refusal, what it means in words. Assumes nothing.
-use Rattle.std.specs.Prelude.{ℕ, zero, suc, ◌≤◌, ◌≡◌, List, [], ◌++◌, length}
+use Rattle.refusal.specs.Test.{Verdict}
+use Rattle.lookup.specs.Delivered.{DeliveredAnswer}
+use Rattle.lookup.specs.Answer.{LitresAnswer, HeightAnswer}
+use Rattle.std.specs.Prelude.{ℕ, zero, suc, ◌≤◌, ◌≡◌, List, [], ◌++◌, length, Ok, Err}
 use Rattle.measure.specs.Quantity.{dip_units, volume_units}
 use Rattle.schedule.specs.Rows.{smallest_step, row_count, row_height, most_rows}
 use Rattle.refusal.specs.declared.Refusal.{Refusal}
-use Rattle.refusal.specs.declared.Verdict.{Verdict}
-use Rattle.refusal.specs.declared.Verdict.TheVariants as verdicts
-use Rattle.lookup.specs.declared.litres.LitresAnswer.{LitresAnswer}
-use Rattle.lookup.specs.declared.litres.LitresAnswer.TheVariants as litres_answers
-use Rattle.lookup.specs.declared.height.HeightAnswer.{HeightAnswer}
-use Rattle.lookup.specs.declared.height.HeightAnswer.TheVariants as height_answers
-use Rattle.lookup.specs.declared.delivered.DeliveredAnswer.{DeliveredAnswer}
-use Rattle.lookup.specs.declared.delivered.DeliveredAnswer.TheVariants as delivered_answers
 use Rattle.lookup.specs.Table.{row}
 use Rattle.text.specs.Put.{Says}
 use Rattle.lines.specs.Lines.{rows_line, row_line, refused_line, figure_line, signed_line}
@@ -33,38 +28,38 @@ refused_words r = words_line r.about
 
 -- a text where nothing is refused, else the line of the refusal
 unfoldable pub text_by : Verdict → List ℕ → List ℕ
-text_by verdicts.Passed text = text
-text_by (verdicts.Refused r) text = refused_text r
+text_by (Ok tt) text = text
+text_by (Err r) text = refused_text r
 
 abbrev pub verdict_words : Verdict → List ℕ
-verdict_words verdicts.Passed = []
-verdict_words (verdicts.Refused r) = refused_words r
+verdict_words (Ok tt) = []
+verdict_words (Err r) = refused_words r
 
 -- a lookup's answer
 
 abbrev pub litres_text : LitresAnswer → List ℕ
-litres_text (litres_answers.Litres v) = figure_line (volume_units v)
-litres_text (litres_answers.Refused r) = refused_text r
+litres_text (Ok v) = figure_line (volume_units v)
+litres_text (Err r) = refused_text r
 
 abbrev pub litres_words : LitresAnswer → List ℕ
-litres_words (litres_answers.Litres v) = []
-litres_words (litres_answers.Refused r) = refused_words r
+litres_words (Ok v) = []
+litres_words (Err r) = refused_words r
 
 abbrev pub height_text : HeightAnswer → List ℕ
-height_text (height_answers.Height h) = figure_line (dip_units h)
-height_text (height_answers.Refused r) = refused_text r
+height_text (Ok h) = figure_line (dip_units h)
+height_text (Err r) = refused_text r
 
 abbrev pub height_words : HeightAnswer → List ℕ
-height_words (height_answers.Height h) = []
-height_words (height_answers.Refused r) = refused_words r
+height_words (Ok h) = []
+height_words (Err r) = refused_words r
 
 abbrev pub delivered_text : DeliveredAnswer → List ℕ
-delivered_text (delivered_answers.Litres d) = signed_line d
-delivered_text (delivered_answers.Refused r) = refused_text r
+delivered_text (Ok d) = signed_line d
+delivered_text (Err r) = refused_text r
 
 abbrev pub delivered_words : DeliveredAnswer → List ℕ
-delivered_words (delivered_answers.Litres d) = []
-delivered_words (delivered_answers.Refused r) = refused_words r
+delivered_words (Ok d) = []
+delivered_words (Err r) = refused_words r
 
 -- a table
 

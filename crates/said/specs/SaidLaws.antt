@@ -1,9 +1,8 @@
 -- Laws of what is said: a text with nothing beside it, what is said where there is more room, and what is said by a verdict. Assumes nothing.
-use Rattle.std.specs.Prelude.{ℕ, ◌≤◌, ◌≡◌, List, [], length}
+use Rattle.refusal.specs.Test.{Verdict}
+use Rattle.std.specs.Prelude.{ℕ, ◌≤◌, ◌≡◌, List, [], length, Ok, Err}
 use Rattle.std.proofs.Common.{arith}
 use Rattle.refusal.specs.declared.Refusal.{Refusal}
-use Rattle.refusal.specs.declared.Verdict.{Verdict}
-use Rattle.refusal.specs.declared.Verdict.TheVariants.{Passed, Refused}
 use Rattle.text.specs.Put.{Put, Says}
 use Rattle.text.specs.PutLaws.{put_nothing, says}
 use Rattle.lines.specs.Lines.{line_size}
@@ -25,13 +24,13 @@ told_wider wider told =
     record { printed = (p.0, p.1, p.2, λ fits. p.3 (omega arith)); beside = told.beside }
 
 module _ {room : ℕ} {verdict : Verdict} {out₀ out err₀ : List ℕ} where
-  pub refused_told : {err : List ℕ} {said : Said} (text : List ℕ) (r : Refusal) → verdict ≡ Refused r → line_size ≤ room
+  pub refused_told : {err : List ℕ} {said : Said} (text : List ℕ) (r : Refusal) → verdict ≡ Err r → line_size ≤ room
       → Told line_size (refused_text r) (refused_words r) out₀ out err₀ err said
       → Told room (text_by verdict text) (verdict_words verdict) out₀ out err₀ err said
   unfolding text_by
   refused_told text r is enough told = rw is (told_wider enough told)
 
-  pub passed_told : {count : ℕ} (text : List ℕ) → verdict ≡ Passed → Says room text out₀ out count
+  pub passed_told : {count : ℕ} (text : List ℕ) → verdict ≡ Ok tt → Says room text out₀ out count
       → Told room (text_by verdict text) (verdict_words verdict) out₀ out err₀ err₀ (record { out = count; err = 0 })
   unfolding text_by
   passed_told text is printed = rw is (told_alone printed)

@@ -1,15 +1,15 @@
 // A table: the line of the row count, and a line for each row; or its refusal. A memory of OUT_SIZE and one of ERR_SIZE bytes have room for
 // all of it.
+ghost use Rattle.refusal.specs.Test.{Verdict};
 ghost use Rattle.std.specs.Prelude.{◌≡◌, ◌*◌, ◌≤◌, length};
 ghost use Rattle.text.specs.Put.{Put, Says};
-ghost use Rattle.refusal.specs.declared.Verdict.TheVariants.{Passed};
 ghost use Rattle.lines.specs.Lines.{row_size};
 ghost use Rattle.said.specs.Said.{Told, text_by, verdict_words, out_size, Whole, rows_text, whole_text};
 
 use crate::refused::refused_said;
 use crate::{OUT_SIZE, Said};
 use lines::{row_line, rows_line};
-use refusal::Verdict;
+use refusal::Refusal;
 use schedule::row_height;
 
 // The lines of the rows, behind what stands there.
@@ -37,7 +37,7 @@ fn put_table(out: &mut [u8], dh: u32, step: u32, rows: usize, table: &[u32]) -> 
 }
 
 pub fn rows_said(
-    verdict: Verdict,
+    verdict: Result<(), Refusal>,
     dh: u32,
     step: u32,
     rows: usize,
@@ -45,12 +45,12 @@ pub fn rows_said(
     out: &mut [u8],
     err: &mut [u8],
 ) -> Said
-    requires { «verdict» ≡ Passed → Whole dh step rows table.now }
+    requires { «verdict» ≡ Ok tt → Whole dh step rows table.now }
     ensures { Told out_size (text_by «verdict» (whole_text dh step table.now rows)) (verdict_words «verdict») out.old out.new err.old err.new result }
 {
     match verdict {
-        Verdict::Refused(r) => refused_said(r, out, err),
-        Verdict::Passed => Said {
+        Err(r) => refused_said(r, out, err),
+        Verdict::(Ok tt) => Said {
             out: put_table(out, dh, step, rows, table),
             err: 0,
         },

@@ -1,10 +1,8 @@
 -- What is known of a refusal. Where every test of a list has a number in use and a sentence that is told, so has the refusal that it gives. Its
 -- number is never 0, so whoever passes on a refusal's number and gives 0 met none, and never 10, which is retired. Assumes nothing.
-use Rattle.std.specs.Prelude.{◌≡◌, Bool, true, ◌&&◌, List, [], ◌∷◌}
+use Rattle.std.specs.Prelude.{◌≡◌, Bool, true, ◌&&◌, List, [], ◌∷◌, Ok, Err}
 use Rattle.refusal.specs.declared.Refusal.{Refusal}
-use Rattle.refusal.specs.declared.Verdict.{Verdict}
-use Rattle.refusal.specs.declared.Verdict.TheVariants.{Passed, Refused}
-use Rattle.refusal.specs.Test.{Test, refusal_of, in_use}
+use Rattle.refusal.specs.Test.{Test, refusal_of, in_use, Verdict}
 use Rattle.sentences.specs.Sentences.{told}
 
 abbrev pub is_known : Refusal → Bool
@@ -16,8 +14,8 @@ Known r = is_known r ≡ true
 
 -- .. and so has a verdict, if it refuses
 abbrev pub KnownIn : Verdict → Type 0
-KnownIn Passed = Unit
-KnownIn (Refused r) = Known r
+KnownIn (Ok tt) = Unit
+KnownIn (Err r) = Known r
 
 -- tests whose numbers and sentences are written out: that each is known is computed
 abbrev pub all_known : List Test → Bool

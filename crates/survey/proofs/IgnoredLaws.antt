@@ -1,7 +1,7 @@
 -- Bytes in no section are ignored (document 01, 'The survey file'): two files that agree in the header's bytes and in those of every
 -- section, and whose lengths refusals 1 and 3 find alike, decode alike. Assumes nothing.
 use Prim.Native.Nat.{ℕ, zero, suc, ◌+◌, ◌≤◌, ◌<◌}
-use Rattle.std.specs.Prelude.{◌≡◌, Bool, true, false, ◌&&◌, leb, ltb}
+use Rattle.std.specs.Prelude.{◌≡◌, Bool, true, false, ◌&&◌, leb, ltb, Ok, Err}
 use Rattle.std.proofs.Math.Path.{refl, ap, ap₂}
 use Rattle.std.proofs.Common.{sym, ◌∙◌, mul-le-mul_left, arith, leb-true, ltb-true}
 use mathlib.Core.List.{List, [], ◌∷◌, ◌++◌, Memᴰ}
@@ -11,9 +11,7 @@ use Rattle.laws.specs.Order.{pick}
 use Rattle.laws.specs.Fill.{rows_of}
 use Rattle.laws.specs.FillLaws.{rows_of_agree}
 use Rattle.refusal.specs.declared.Refusal.{Refusal}
-use Rattle.refusal.specs.declared.Verdict.{Verdict}
-use Rattle.refusal.specs.declared.Verdict.TheVariants.{Passed, Refused}
-use Rattle.refusal.specs.Test.{verdict, items, within}
+use Rattle.refusal.specs.Test.{verdict, items, within, Verdict}
 use Rattle.refusal.specs.TestLaws.{items_agree, refused_not_passed}
 use Rattle.refusal.specs.PlainLaws.{plain_refusal, plain, plain_append, plain_pick}
 use Rattle.seams.specs.Seam.{no_seam}
@@ -109,22 +107,22 @@ module _ (s s' : List ℕ) where
 -- files that refusal 1 is given to, or not, alike
 sizes_agree : (header size size' : ℕ) → within header size largest_file ≡ within header size' largest_file
     → (r r' q q' : Refusal) → plain_refusal r ≡ plain_refusal r' → plain_refusal q ≡ plain_refusal r → plain_refusal q' ≡ plain_refusal r'
-    → plain (pick (leb size largest_file) (pick (within header size largest_file) Passed (Refused r)) (Refused q))
-    ≡ plain (pick (leb size' largest_file) (pick (within header size' largest_file) Passed (Refused r')) (Refused q'))
+    → plain (pick (leb size largest_file) (pick (within header size largest_file) (Ok tt) (Err r)) (Err q))
+    ≡ plain (pick (leb size' largest_file) (pick (within header size' largest_file) (Ok tt) (Err r')) (Err q'))
 sizes_agree header size size' alike r r' q q' same first first' =
     one (leb header size) (leb size largest_file) r q first
     ∙ rw (← alike) (choose (within header size largest_file)) ∙ sym (one (leb header size') (leb size' largest_file) r' q' first')
   where
     one : (a b : Bool) (r q : Refusal) → plain_refusal q ≡ plain_refusal r
-        → plain (pick b (pick (a && b) Passed (Refused r)) (Refused q)) ≡ pick (a && b) Passed (Refused (plain_refusal r))
+        → plain (pick b (pick (a && b) (Ok tt) (Err r)) (Err q)) ≡ pick (a && b) (Ok tt) (Err (plain_refusal r))
     one true true r q e = refl
     one false true r q e = refl
-    one true false r q e = ap Refused e
-    one false false r q e = ap Refused e
+    one true false r q e = ap Err e
+    one false false r q e = ap Err e
 
-    choose : (b : Bool) → pick b Passed (Refused (plain_refusal r)) ≡ pick b Passed (Refused (plain_refusal r'))
+    choose : (b : Bool) → pick b (Ok tt) (Err (plain_refusal r)) ≡ pick b (Ok tt) (Err (plain_refusal r'))
     choose true = refl
-    choose false = ap Refused same
+    choose false = ap Err same
 
 -- sections that are placed alike: what is told of a bad place is the file's size too
 places_agree : (header size size' : ℕ) (xs : List Section) → ((x : Section) → Memᴰ x xs → placed header size x ≡ placed header size' x)
@@ -293,10 +291,10 @@ module _ (f : Format) (s s' : List ℕ) (readable : Readable f) (same : SameSect
   same_decoded = by_verdict (verdict (file_tests f s)) (verdict (file_tests f s')) same_verdict
     where
       by_verdict : (v v' : Verdict) → plain v ≡ plain v' → Alike (decoded_by v (survey_of f s)) (decoded_by v' (survey_of f s'))
-      by_verdict Passed Passed e = (refl, same_survey)
-      by_verdict (Refused r) (Refused r') e = (e, refl)
-      by_verdict Passed (Refused r') e = absurd (refused_not_passed (plain_refusal r') (sym e))
-      by_verdict (Refused r) Passed e = absurd (refused_not_passed (plain_refusal r) e)
+      by_verdict (Ok tt) (Ok tt) e = (refl, same_survey)
+      by_verdict (Err r) (Err r') e = (e, refl)
+      by_verdict (Ok tt) (Err r') e = absurd (refused_not_passed (plain_refusal r') (sym e))
+      by_verdict (Err r) (Ok tt) e = absurd (refused_not_passed (plain_refusal r) e)
 
 -- bytes in no section are ignored
 pub other_bytes_ignored : (s s' : List ℕ) → SameSections s s' → Alike (decoded s) (decoded s')

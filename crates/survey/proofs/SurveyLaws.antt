@@ -1,12 +1,10 @@
 -- What a file that is not refused promises of its survey, as plain facts. Assumes nothing.
-use Rattle.std.specs.Prelude.{ℕ, ◌≤◌, ◌≡◌, refl, true, List}
+use Rattle.std.specs.Prelude.{ℕ, ◌≤◌, ◌≡◌, refl, true, List, Ok, Err}
 use Rattle.std.proofs.Common.{take_at}
 use Rattle.laws.specs.FillLaws.{length_rows_of}
 use Rattle.laws.specs.BoolLaws.{both_pass}
 use Rattle.measure.specs.Diameter.{smallest, largest}
-use Rattle.refusal.specs.declared.Verdict.{Verdict}
-use Rattle.refusal.specs.declared.Verdict.TheVariants.{Passed, Refused}
-use Rattle.refusal.specs.Test.{verdict, within, near}
+use Rattle.refusal.specs.Test.{verdict, within, near, Verdict}
 use Rattle.refusal.specs.TestLaws.{refused_not_passed, passed_all, within_pass}
 use Rattle.heads.specs.Kind.{kind_of}
 use Rattle.heads.specs.LengthLaws.{within_limits}
@@ -30,10 +28,10 @@ fits_within : (d dh : ℕ) → diameter_fits d dh ≡ true → (smallest ≤ d) 
 unfolding diameter_fits
 fits_within d dh e = within_pass smallest d largest (both_pass (near d dh farthest) (within smallest d largest) e).1
 
-pub passed_file : (f : Format) (s : List ℕ) → Readable f → verdict (file_tests f s) ≡ Passed → NumbersFit f s × (verdict (dimension_tests f s) ≡ Passed)
+pub passed_file : (f : Format) (s : List ℕ) → Readable f → verdict (file_tests f s) ≡ Ok tt → NumbersFit f s × (verdict (dimension_tests f s) ≡ Ok tt)
 passed_file f s readable e = let parts = taken_apart f s e in (numbers_pass f s parts.0 readable, parts.1)
 
-pub survey_fits : (f : Format) (s : List ℕ) → Readable f → verdict (file_tests f s) ≡ Passed → SurveyLimits (survey_of f s)
+pub survey_fits : (f : Format) (s : List ℕ) → Readable f → verdict (file_tests f s) ≡ Ok tt → SurveyLimits (survey_of f s)
 unfolding dimension_tests
 survey_fits f s readable e =
     let numbers = (passed_file f s readable e).0 in
@@ -65,8 +63,8 @@ pub decoded_as_fits : (f : Format) (s : List ℕ) → Readable f → WithinLimit
 decoded_as_fits f s readable = by_verdict (verdict (file_tests f s)) refl
   where
     by_verdict : (v : Verdict) → verdict (file_tests f s) ≡ v → WithinLimits (decoded_by v (survey_of f s))
-    by_verdict Passed e = λ p. survey_fits f s readable e
-    by_verdict (Refused r) e = λ p. absurd (refused_not_passed r p)
+    by_verdict (Ok tt) e = λ p. survey_fits f s readable e
+    by_verdict (Err r) e = λ p. absurd (refused_not_passed r p)
 
 pub decoded_fits : (s : List ℕ) → WithinLimits (decoded s)
 unfolding decoded

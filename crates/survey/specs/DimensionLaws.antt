@@ -1,7 +1,6 @@
 -- What a file that refusals 6, 7 and 14 can be given to promises: these are its verdict. Assumes nothing.
-use Rattle.std.specs.Prelude.{ℕ, ◌≡◌, true, List, ◌++◌}
+use Rattle.std.specs.Prelude.{ℕ, ◌≡◌, true, List, ◌++◌, Ok}
 use Rattle.std.proofs.Common.{◌∙◌}
-use Rattle.refusal.specs.declared.Verdict.TheVariants.{Passed}
 use Rattle.refusal.specs.Test.{verdict}
 use Rattle.refusal.specs.TestLaws.{verdict_append, passed_all, passed_append}
 use Rattle.heads.specs.Kind.{kind_known}
@@ -21,12 +20,12 @@ use Rattle.survey.specs.KnownLaws.{decoded_verdict}
 
 -- refusals 1 to 5 are not given
 pub record FirstFivePass (f : Format) (s : List ℕ) : Type 0 where
-  pub size : verdict (size_tests f s) ≡ Passed
-  pub layout : verdict (layout_tests f s) ≡ Passed
-  pub numbers : verdict (number_tests f s) ≡ Passed
+  pub size : verdict (size_tests f s) ≡ Ok tt
+  pub layout : verdict (layout_tests f s) ≡ Ok tt
+  pub numbers : verdict (number_tests f s) ≡ Ok tt
 
 -- of a file that passes, the tests taken apart
-pub taken_apart : (f : Format) (s : List ℕ) → verdict (file_tests f s) ≡ Passed → FirstFivePass f s × (verdict (dimension_tests f s) ≡ Passed)
+pub taken_apart : (f : Format) (s : List ℕ) → verdict (file_tests f s) ≡ Ok tt → FirstFivePass f s × (verdict (dimension_tests f s) ≡ Ok tt)
 unfolding file_tests
 taken_apart f s e =
     let size = passed_append (size_tests f s) (layout_tests f s ++ (number_tests f s ++ dimension_tests f s)) e in

@@ -1,14 +1,13 @@
 -- Refusals 6 and 14 in document 02's words. 6 (E1): a file that passes refusals 1 to 5 gets it exactly when the sum of the course lengths and L1 differ
 -- by more than 100 u for each course. 14 (E2): a file that passes refusals 1 to 7 gets it exactly when its heads are spherical caps and twice their
 -- length exceeds D2. Assumes nothing.
-use Rattle.std.specs.Prelude.{ℕ, ◌+◌, ◌*◌, ◌-◌, ◌<◌, zero, suc, ◌≡◌, refl, Bool, true, false, List, [], ◌∷◌, ◌++◌, leb}
+use Rattle.std.specs.Prelude.{ℕ, ◌+◌, ◌*◌, ◌-◌, ◌<◌, zero, suc, ◌≡◌, refl, Bool, true, false, List, [], ◌∷◌, ◌++◌, leb, Ok, Err}
 use Rattle.std.proofs.Common.{sym, ◌∙◌}
 use native.Mathlib.Omega.{arith}
 use borrow.Author.Tests.{leb-false, lt-leb, le-leb, leb-true}
 use Rattle.laws.specs.Exactly.{Exactly}
 use Rattle.laws.specs.Order.{pick}
 use Rattle.laws.specs.BoolLaws.{true_not_false}
-use Rattle.refusal.specs.declared.Verdict.TheVariants.{Passed, Refused}
 use Rattle.refusal.specs.Test.{Test, refusal_of, verdict}
 use Rattle.refusal.specs.TestLaws.{near_difference, refused_not_passed}
 use Rattle.refusal.specs.EachLaws.{first_refused}
@@ -46,7 +45,7 @@ module _ (s : List ℕ) (e : FirstFivePass today s) where
   count : (sums_of today s).count ≡ (courses today s).count
   count = (file_sums today s (numbers_pass today s e today_readable)).count
 
-  pub sixth_exactly : Exactly ((decoded s).verdict ≡ Refused (refusal_of (lengths_test (sums_of today s) (word s l1_at)))) (100 * (courses today s).count < missed today s)
+  pub sixth_exactly : Exactly ((decoded s).verdict ≡ Err (refusal_of (lengths_test (sums_of today s) (word s l1_at)))) (100 * (courses today s).count < missed today s)
   unfolding dimension_tests
   sixth_exactly =
       let most = allowance (sums_of today s) in
@@ -72,7 +71,7 @@ too_long (suc (suc zero)) d l known = record { only_when = λ h. (refl, leb-fals
 too_long (suc (suc (suc n))) d l known = absurd (omega (arith, leb-true (suc (suc (suc n))) 2 known))
 
 -- of the last test
-refused_last : (b : Bool) (r : Refusal) → pick b Passed (Refused r) ≡ Refused r → b ≡ false
+refused_last : (b : Bool) (r : Refusal) → pick b (Ok tt) (Err r) ≡ Err r → b ≡ false
 refused_last true r e = absurd (refused_not_passed r (sym e))
 refused_last false r e = refl
 
@@ -86,7 +85,7 @@ module _ (s : List ℕ) (first-five : FirstFivePass today s) (lengths : (lengths
   unfolding dimension_tests
   decides = decoded_by_dimensions s first-five ∙ rw (lengths, shell, heads)
 
-  pub fourteenth_exactly : Exactly ((decoded s).verdict ≡ Refused (refusal_of caps)) ((word s kind_at ≡ 2) × (d2 today s < 2 * word s l3_at))
+  pub fourteenth_exactly : Exactly ((decoded s).verdict ≡ Err (refusal_of caps)) ((word s kind_at ≡ 2) × (d2 today s < 2 * word s l3_at))
   fourteenth_exactly =
       let exactly = too_long (word s kind_at) (d2 today s) (word s l3_at) (kind_known_law today s first-five) in
       record {

@@ -1,8 +1,7 @@
 -- Document 01's example survey, byte by byte: kind 0, DH 50,000, L1 100,000, ends 160,221, L2 0, step 10,000, one course (160,221,
 -- 160,221, 100,000, 500), no deadwood, no seams. And what it is decoded to, which is a computation. Assumes nothing.
-use Rattle.std.specs.Prelude.{ℕ, ◌+◌, ◌*◌, ◌≡◌, List, [], ◌∷◌, ◌++◌, length}
+use Rattle.std.specs.Prelude.{ℕ, ◌+◌, ◌*◌, ◌≡◌, List, [], ◌∷◌, ◌++◌, length, Ok}
 use Rattle.measure.specs.Quantity.{diameter}
-use Rattle.refusal.specs.declared.Verdict.TheVariants.{Passed}
 use Rattle.heads.specs.declared.kind.HeadKind.{HeadKind}
 use Rattle.heads.specs.declared.kind.HeadKind.TheVariants.{Flat, SphericalCap}
 use Rattle.file.specs.Word.{bytes_of}
@@ -46,7 +45,7 @@ six_rows_survey = six_rows_survey_with Flat 0
 
 -- it is the survey of a file
 abbrev pub SixRows : List ℕ → Type 0
-SixRows s = decoded s ≡ decoded_by Passed six_rows_survey
+SixRows s = decoded s ≡ decoded_by (Ok tt) six_rows_survey
 
 -- courses that miss by a hair (document 02, E1): 100 u for each of them, short and long
 abbrev pub MissingCourses : Type 0
@@ -61,7 +60,7 @@ abbrev pub longest_caps : List ℕ
 longest_caps = six_rows_with 2 25000 (100000 ∷ [])
 
 abbrev pub LongestCaps : Type 0
-LongestCaps = decoded longest_caps ≡ decoded_by Passed (six_rows_survey_with SphericalCap 25000)
+LongestCaps = decoded longest_caps ≡ decoded_by (Ok tt) (six_rows_survey_with SphericalCap 25000)
 
 -- tape rise over weld seams (document 02, E4): with two seams of 2 mm by 12 mm the course's circumferences come out 86 u longer, 19 for the
 -- first term and 67 for the second; those at the shell's ends do not

@@ -1,10 +1,8 @@
 -- Every refusal of a file has a number in use and a sentence, and is that of the first test that fails. Assumes nothing.
-use Rattle.std.specs.Prelude.{ℕ, ◌+◌, ◌≡◌, refl, List, [], ◌∷◌, ◌++◌}
+use Rattle.std.specs.Prelude.{ℕ, ◌+◌, ◌≡◌, refl, List, [], ◌∷◌, ◌++◌, Ok, Err}
 use Rattle.std.proofs.Common.{sym, ◌∙◌, ap}
 use Rattle.refusal.specs.declared.Refusal.{Refusal}
-use Rattle.refusal.specs.declared.Verdict.{Verdict}
-use Rattle.refusal.specs.declared.Verdict.TheVariants.{Passed, Refused}
-use Rattle.refusal.specs.Test.{Test, verdict, first_refusal}
+use Rattle.refusal.specs.Test.{Test, verdict, first_refusal, Verdict}
 use Rattle.refusal.specs.TestLaws.{verdict_append}
 use Rattle.refusal.specs.FailedLaws.{FirstFailed, first_failed}
 use Rattle.refusal.specs.EachLaws.{Each, each_append, each_item}
@@ -59,8 +57,8 @@ pub decoded_as_verdict : (f : Format) (s : List ℕ) → (decoded_as f s).verdic
 decoded_as_verdict f s = go (verdict (file_tests f s)) (survey_of f s)
   where
     go : (w : Verdict) (v : Survey) → (decoded_by w v).verdict ≡ w
-    go Passed v = refl
-    go (Refused r) v = refl
+    go (Ok tt) v = refl
+    go (Err r) v = refl
 
 pub decoded_verdict : (s : List ℕ) → (decoded s).verdict ≡ verdict (file_tests today s)
 unfolding decoded
@@ -70,7 +68,7 @@ pub decoded_known : (f : Format) (s : List ℕ) → KnownIn (decoded_as f s).ver
 decoded_known f s = rw (decoded_as_verdict f s) (verdict_known (file_tests f s) (file_known f s))
 
 -- a refusal of a file, or of what is tested behind it, is that of the first test that fails, of all tests in their order
-pub refused_by_its_test : (f : Format) (s : List ℕ) (behind : List Test) (r : Refusal) → first_refusal (decoded_as f s).verdict (verdict behind) ≡ Refused r
+pub refused_by_its_test : (f : Format) (s : List ℕ) (behind : List Test) (r : Refusal) → first_refusal (decoded_as f s).verdict (verdict behind) ≡ Err r
     → FirstFailed (file_tests f s ++ behind) r
 refused_by_its_test f s behind r e =
     first_failed (file_tests f s ++ behind) r

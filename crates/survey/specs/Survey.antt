@@ -1,11 +1,9 @@
 -- The survey that a file holds, read by its format, and what decoding a file gives: its survey where no test refuses it, else the
 -- refusal. Assumes nothing.
-use Rattle.std.specs.Prelude.{ℕ, List, ◌++◌, take, drop, replicate}
+use Rattle.std.specs.Prelude.{ℕ, List, ◌++◌, take, drop, replicate, Ok, Err}
 use Rattle.measure.specs.Diameter.{smallest}
 use Rattle.measure.specs.Quantity.{diameter}
-use Rattle.refusal.specs.declared.Verdict.{Verdict}
-use Rattle.refusal.specs.declared.Verdict.TheVariants.{Passed, Refused}
-use Rattle.refusal.specs.Test.{verdict}
+use Rattle.refusal.specs.Test.{verdict, Verdict}
 use Rattle.deadwood.specs.declared.item.Deadwood.{Deadwood}
 use Rattle.deadwood.specs.Item.{most_items, no_item}
 use Rattle.heads.specs.declared.kind.HeadKind.TheVariants.{Flat}
@@ -70,8 +68,8 @@ no_survey =
     }
 
 abbrev pub decoded_by : Verdict → Survey → Decoded
-decoded_by Passed v = record { verdict = Passed; survey = v }
-decoded_by (Refused r) v = record { verdict = Refused r; survey = no_survey }
+decoded_by (Ok tt) v = record { verdict = Ok tt; survey = v }
+decoded_by (Err r) v = record { verdict = Err r; survey = no_survey }
 
 -- of a file in a format
 abbrev pub decoded_as : Format → List ℕ → Decoded

@@ -1,6 +1,5 @@
 -- What a file that is not refused promises of its survey, as plain facts. Assumes nothing.
-use Rattle.std.specs.Prelude.{◌≤◌, ◌≡◌}
-use Rattle.refusal.specs.declared.Verdict.TheVariants.{Passed}
+use Rattle.std.specs.Prelude.{◌≤◌, ◌≡◌, Ok}
 use Rattle.deadwood.specs.Item.{most_items}
 use Rattle.deadwood.specs.ListLaws.{DeadwoodLimits}
 use Rattle.schedule.specs.Rows.{smallest_step, largest_step}
@@ -18,4 +17,4 @@ pub record SurveyLimits (v : Survey) : Type 0 where
   pub items : DeadwoodLimits (items_in v)
 
 abbrev pub WithinLimits : Decoded → Type 0
-WithinLimits d = d.verdict ≡ Passed → SurveyLimits d.survey
+WithinLimits d = d.verdict ≡ Ok tt → SurveyLimits d.survey

@@ -1,7 +1,7 @@
 // The survey that a file holds, or the refusal of any other. A file is read here and nowhere else.
+ghost use Rattle.refusal.specs.Test.{Verdict};
 ghost use Rattle.std.specs.Prelude.{◌≡◌, ◌≤◌, length};
 ghost use Rattle.measure.specs.Quantity.{diameter, diameter_units};
-ghost use Rattle.refusal.specs.declared.Verdict.{Verdict};
 ghost use Rattle.file.specs.Word.{word};
 ghost use Rattle.file.specs.Layout.{header_end, dh_at};
 ghost use Rattle.file.specs.Format.{format48};
@@ -23,7 +23,7 @@ use form::tests;
 use heads::kind::HeadKind;
 use measure::diameter::Diameter;
 use records::item::item_from;
-use refusal::{Refusal, Verdict};
+use refusal::Refusal;
 use tank::tank::Tank;
 
 // The size in bytes past which every file is refused: what a caller reads of one.
@@ -44,17 +44,17 @@ pub struct Survey {
 // The verdict on a file, and its survey; beside a refusal stands a survey of nothing.
 #[derive(Clone, Copy)]
 pub struct Decoded {
-    pub verdict: Verdict,
+    pub verdict: Result<(), Refusal>,
     pub survey: Survey,
 }
 
 // The refusal of a file.
 fn refused(refusal: Refusal) -> Decoded
-    ensures { result ≡ decoded_by (Verdict.Refused refusal) no_survey }
+    ensures { result ≡ decoded_by (Err refusal) no_survey }
 {
     let d = Diameter::smallest();
     Decoded {
-        verdict: Verdict::Refused(refusal),
+        verdict: Err(refusal),
         survey: Survey {
             tank: Tank {
                 kind: HeadKind::Flat,
@@ -108,12 +108,12 @@ fn tank_of(s: &[u8], dh: Diameter, d1: Diameter, d2: Diameter) -> Tank
 // A file that is not refused: its survey.
 fn accepted(f: Format, s: &[u8], dh: Diameter, d1: Diameter, d2: Diameter) -> Decoded
     requires { Readable f × Placed f s.now × (dh ≡ diameter (word s.now dh_at)) }
-    ensures { result ≡ decoded_by Verdict.Passed (survey_with f s.now (diameter_units d1) (diameter_units d2)) }
+    ensures { result ≡ decoded_by (Ok tt) (survey_with f s.now (diameter_units d1) (diameter_units d2)) }
 {
     let tank = tank_of(s, dh, d1, d2);
     let x = deadwood(f, s);
     Decoded {
-        verdict: Verdict::Passed,
+        verdict: Ok(()),
         survey: Survey {
             tank,
             step: word(s, layout::STEP),

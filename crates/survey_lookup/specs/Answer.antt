@@ -1,26 +1,22 @@
 -- The lookups on a survey file's own table. On a table in hand: its refusal, or the lookup on its rows. From a decoded file: what the file
 -- and its table are refused for comes first, then the lookup on the net rows. Assumes nothing.
-use Rattle.std.specs.Prelude.{ℕ, ◌≡◌, List}
+use Rattle.refusal.specs.Test.{Verdict}
+use Rattle.std.specs.Prelude.{ℕ, ◌≡◌, List, Ok, Err}
 use Rattle.measure.specs.Quantity.{diameter_units}
 use Rattle.refusal.specs.declared.Refusal.{Refusal}
-use Rattle.refusal.specs.declared.Verdict.{Verdict}
-use Rattle.refusal.specs.declared.Verdict.TheVariants.{Passed, Refused}
 use Rattle.schedule.specs.Rows.{most_rows}
 use Rattle.survey.specs.declared.decode.Decoded.{Decoded}
 use Rattle.survey.specs.declared.decode.Survey.{Survey}
 use Rattle.rows.specs.Rows.{table_of}
 use Rattle.table.specs.Answer.{verdict_on}
-use Rattle.lookup.specs.declared.litres.LitresAnswer.{LitresAnswer}
-use Rattle.lookup.specs.declared.height.HeightAnswer.{HeightAnswer}
-use Rattle.lookup.specs.declared.delivered.DeliveredAnswer.{DeliveredAnswer}
-use Rattle.lookup.specs.Answer.{litres_answer, ReadOff, height_answer, Reached}
-use Rattle.lookup.specs.Delivered.{delivered_answer, ReadOffBoth}
+use Rattle.lookup.specs.Answer.{litres_answer, ReadOff, height_answer, Reached, LitresAnswer, HeightAnswer}
+use Rattle.lookup.specs.Delivered.{delivered_answer, ReadOffBoth, DeliveredAnswer}
 use Rattle.survey_lookup.specs.declared.Tabled.{Tabled}
 use Rattle.survey_lookup.specs.Tabled.{tabled, own_rows}
 
 abbrev pub answer_by : {A : Type 0} → (Refusal → A) → (ℕ → ℕ → List ℕ → A) → Verdict → ℕ → ℕ → List ℕ → A
-answer_by refused look Passed dh step rows = look dh step rows
-answer_by refused look (Refused r) dh step rows = refused r
+answer_by refused look (Ok tt) dh step rows = look dh step rows
+answer_by refused look (Err r) dh step rows = refused r
 
 abbrev pub answer_in : {A : Type 0} → (Refusal → A) → (ℕ → ℕ → List ℕ → A) → Tabled → A
 answer_in refused look t = answer_by refused look t.verdict t.dh t.step (own_rows t)
@@ -33,26 +29,26 @@ answer_from refused look file =
 -- litres at a height
 
 unfoldable pub litres_in : Tabled → ℕ → LitresAnswer
-litres_in t h = answer_in LitresAnswer.Refused (λ d s rows. litres_answer d s rows h) t
+litres_in t h = answer_in Err (λ d s rows. litres_answer d s rows h) t
 
 unfoldable pub litres_from : Decoded → ℕ → LitresAnswer
-litres_from file h = answer_from LitresAnswer.Refused (λ d s rows. litres_answer d s rows h) file
+litres_from file h = answer_from Err (λ d s rows. litres_answer d s rows h) file
 
 -- the lowest height for a volume
 
 unfoldable pub height_in : Tabled → ℕ → HeightAnswer
-height_in t w = answer_in HeightAnswer.Refused (λ d s rows. height_answer d s rows w) t
+height_in t w = answer_in Err (λ d s rows. height_answer d s rows w) t
 
 unfoldable pub height_from : Decoded → ℕ → HeightAnswer
-height_from file w = answer_from HeightAnswer.Refused (λ d s rows. height_answer d s rows w) file
+height_from file w = answer_from Err (λ d s rows. height_answer d s rows w) file
 
 -- the litres delivered between two heights
 
 unfoldable pub delivered_in : Tabled → ℕ → ℕ → DeliveredAnswer
-delivered_in t before after = answer_in DeliveredAnswer.Refused (λ d s rows. delivered_answer d s rows before after) t
+delivered_in t before after = answer_in Err (λ d s rows. delivered_answer d s rows before after) t
 
 unfoldable pub delivered_from : Decoded → ℕ → ℕ → DeliveredAnswer
-delivered_from file before after = answer_from DeliveredAnswer.Refused (λ d s rows. delivered_answer d s rows before after) file
+delivered_from file before after = answer_from Err (λ d s rows. delivered_answer d s rows before after) file
 
 -- of what is answered, what it is on the survey's own table, said outright
 

@@ -1,6 +1,6 @@
 -- A lookup on a survey's own table is never refused for the table (refusal 11): every height up to DH, every volume up to the last
 -- row and every delivery between such heights is answered; and what is answered, in hand or from the file, said outright. Assumes nothing.
-use Rattle.std.specs.Prelude.{ℕ, zero, suc, ◌-◌, ◌≤◌, ◌<◌, ◌≡◌, refl, true, List, leb, ℤ, pos, negsuc, nat_abs, ◌-ℤ◌, length}
+use Rattle.std.specs.Prelude.{ℕ, zero, suc, ◌-◌, ◌≤◌, ◌<◌, ◌≡◌, refl, true, List, leb, ℤ, pos, negsuc, nat_abs, ◌-ℤ◌, length, Ok, Err}
 use Rattle.std.proofs.Common.{sym, ◌∙◌, ap, arith}
 use borrow.Author.Tests.{le-leb, eq-eqb}
 use Rattle.std.specs.Int.Signed.{le_z, non_neg}
@@ -11,9 +11,7 @@ use Rattle.laws.specs.ExactlyLaws.{exactly_when}
 use Rattle.laws.specs.SearchLaws.{every_each}
 use Rattle.measure.specs.Quantity.{diameter_units, dip_height, volume}
 use Rattle.refusal.specs.declared.Refusal.{Refusal}
-use Rattle.refusal.specs.declared.Verdict.{Verdict}
-use Rattle.refusal.specs.declared.Verdict.TheVariants.{Passed, Refused}
-use Rattle.refusal.specs.Test.{refusal, verdict}
+use Rattle.refusal.specs.Test.{refusal, verdict, Verdict}
 use Rattle.refusal.specs.TestLaws.{passed_both}
 use Rattle.schedule.specs.Rows.{most_rows}
 use Rattle.survey.specs.declared.decode.Decoded.{Decoded}
@@ -23,15 +21,12 @@ use Rattle.rows.specs.Rows.{rows_in, net_row, cell_of, table_of}
 use Rattle.row_tests.specs.Tests.{table_tests}
 use Rattle.row_tests.specs.RowTestLaws.{none_falls, none_below_zero}
 use Rattle.table.specs.Answer.{verdict_on}
-use Rattle.lookup.specs.declared.litres.LitresAnswer.{LitresAnswer}
-use Rattle.lookup.specs.declared.height.HeightAnswer.{HeightAnswer}
-use Rattle.lookup.specs.declared.delivered.DeliveredAnswer.{DeliveredAnswer}
 use Rattle.lookup.specs.Table.{row, last_row, keeps_up, never_falls, sound_table}
 use Rattle.lookup.specs.Litres.{litres}
 use Rattle.lookup.specs.Height.{height_for}
-use Rattle.lookup.specs.Answer.{too_much, litres_answer, height_answer}
+use Rattle.lookup.specs.Answer.{too_much, litres_answer, height_answer, LitresAnswer, HeightAnswer}
 use Rattle.lookup.proofs.AnswerLaws.{read_off, reached_answer, refused_too_much, read_off_only, reached_only}
-use Rattle.lookup.specs.Delivered.{delivered_answer}
+use Rattle.lookup.specs.Delivered.{delivered_answer, DeliveredAnswer}
 use Rattle.lookup.proofs.DeliveredLaws.{delivered_inside, read_off_both, read_off_both_only}
 use Rattle.survey_lookup.specs.declared.Tabled.{Tabled}
 use Rattle.survey_lookup.specs.TabledLaws.{answer_in_file}
@@ -44,8 +39,8 @@ cells_keep_up (pos m) (pos n) a b e = e
 cells_keep_up (negsuc m) z a b e = absurd (true_not_false (sym a))
 cells_keep_up (pos m) (negsuc n) a b e = absurd (true_not_false (sym b))
 
-module _ (file : Decoded) (cells : ℕ) (within : WithinLimits file) (made : verdict_on file cells ≡ Passed) where
-  rows_made : verdict (table_tests file.survey cells) ≡ Passed
+module _ (file : Decoded) (cells : ℕ) (within : WithinLimits file) (made : verdict_on file cells ≡ Ok tt) where
+  rows_made : verdict (table_tests file.survey cells) ≡ Ok tt
   rows_made = (passed_both file.verdict (verdict (table_tests file.survey cells)) made).1
 
   size : length (table_of file.survey) ≡ rows_in file.survey
@@ -76,21 +71,21 @@ module _ (file : Decoded) (cells : ℕ) (within : WithinLimits file) (made : ver
       )
 
 -- a table that is made answers every height up to DH
-pub every_height_answered : (file : Decoded) (h : ℕ) → WithinLimits file → verdict_on file most_rows ≡ Passed → h ≤ diameter_units file.survey.tank.dh
-    → litres_from file h ≡ LitresAnswer.Litres (volume (litres (diameter_units file.survey.tank.dh) file.survey.step (table_of file.survey) h))
+pub every_height_answered : (file : Decoded) (h : ℕ) → WithinLimits file → verdict_on file most_rows ≡ Ok tt → h ≤ diameter_units file.survey.tank.dh
+    → litres_from file h ≡ Ok (volume (litres (diameter_units file.survey.tank.dh) file.survey.step (table_of file.survey) h))
 unfolding litres_from litres_answer
 every_height_answered file h within made l = rw (made, own_table_sound file most_rows within made, le-leb _ _ l)
 
 -- .. and every volume up to the last row
-pub every_volume_answered : (file : Decoded) (w : ℕ) → WithinLimits file → verdict_on file most_rows ≡ Passed → w ≤ row (table_of file.survey) (rows_in file.survey - 1)
-    → height_from file w ≡ HeightAnswer.Height (dip_height (height_for (diameter_units file.survey.tank.dh) file.survey.step (table_of file.survey) w))
+pub every_volume_answered : (file : Decoded) (w : ℕ) → WithinLimits file → verdict_on file most_rows ≡ Ok tt → w ≤ row (table_of file.survey) (rows_in file.survey - 1)
+    → height_from file w ≡ Ok (dip_height (height_for (diameter_units file.survey.tank.dh) file.survey.step (table_of file.survey) w))
 unfolding height_from height_answer
 every_volume_answered file w within made l = rw (made, own_table_sound file most_rows within made, le-leb _ _ l)
 
 -- .. every delivery between heights up to DH
-pub every_delivery_answered : (file : Decoded) (before after : ℕ) → WithinLimits file → verdict_on file most_rows ≡ Passed
+pub every_delivery_answered : (file : Decoded) (before after : ℕ) → WithinLimits file → verdict_on file most_rows ≡ Ok tt
     → before ≤ diameter_units file.survey.tank.dh → after ≤ diameter_units file.survey.tank.dh
-    → delivered_from file before after ≡ DeliveredAnswer.Litres
+    → delivered_from file before after ≡ Ok
     (pos (litres (diameter_units file.survey.tank.dh) file.survey.step (table_of file.survey) after)
     -ℤ pos (litres (diameter_units file.survey.tank.dh) file.survey.step (table_of file.survey) before))
 unfolding delivered_from
@@ -98,9 +93,9 @@ every_delivery_answered file before after within made l m =
     rw made (delivered_inside _ _ _ before after (own_table_sound file most_rows within made) l m)
 
 -- a volume is too much exactly when it is above the last row
-pub refused_above_last : (file : Decoded) (w : ℕ) → WithinLimits file → verdict_on file most_rows ≡ Passed
+pub refused_above_last : (file : Decoded) (w : ℕ) → WithinLimits file → verdict_on file most_rows ≡ Ok tt
     → let last = last_row (diameter_units file.survey.tank.dh) file.survey.step (table_of file.survey) in
-    Exactly (height_from file w ≡ HeightAnswer.Refused (refusal 13 0 (too_much w last))) (last < w)
+    Exactly (height_from file w ≡ Err (refusal 13 0 (too_much w last))) (last < w)
 unfolding height_from
 refused_above_last file w within made =
     rw made (exactly_when (refused_too_much _ _ _ w) (λ h. h.1) (λ h. (own_table_sound file most_rows within made, h)))
@@ -108,8 +103,8 @@ refused_above_last file w within made =
 -- what holds of the lookup on the survey's own table and of every refusal holds of the answer
 answered : {A : Type 0} (P : A → Type 0) (refused : Refusal → A) (look : ℕ → ℕ → List ℕ → A) (dh step : ℕ) (rows : List ℕ)
     → P (look dh step rows) → ((r : Refusal) → P (refused r)) → (w : Verdict) → P (answer_by refused look w dh step rows)
-answered P refused look dh step rows p q Passed = p
-answered P refused look dh step rows p q (Refused r) = q r
+answered P refused look dh step rows p q (Ok tt) = p
+answered P refused look dh step rows p q (Err r) = q r
 
 -- so an answer on a table in hand tells all that a lookup promises
 told : {A : Type 0} (refused : Refusal → A) (look : ℕ → ℕ → List ℕ → A) (Own : Survey → A → Type 0)
@@ -126,33 +121,33 @@ pub litres_in_told : (t : Tabled) (h : ℕ) {r : LitresAnswer} → r ≡ litres_
     → (r ≡ litres_in t h) × AsFromFile (λ file. litres_from file h) (λ v. ReadOffOwn v h) t r
 unfolding litres_in litres_from
 litres_in_told t h =
-    told LitresAnswer.Refused (λ d s rows. litres_answer d s rows h) (λ v. ReadOffOwn v h) (λ v. read_off _ _ _ h) (λ v r. tt) t
+    told Err (λ d s rows. litres_answer d s rows h) (λ v. ReadOffOwn v h) (λ v. read_off _ _ _ h) (λ v r. tt) t
 
 pub height_in_told : (t : Tabled) (w : ℕ) {r : HeightAnswer} → r ≡ height_in t w
     → (r ≡ height_in t w) × AsFromFile (λ file. height_from file w) (λ v. ReachedOwn v w) t r
 unfolding height_in height_from
 height_in_told t w =
-    told HeightAnswer.Refused (λ d s rows. height_answer d s rows w) (λ v. ReachedOwn v w) (λ v. reached_answer _ _ _ w) (λ v r. tt) t
+    told Err (λ d s rows. height_answer d s rows w) (λ v. ReachedOwn v w) (λ v. reached_answer _ _ _ w) (λ v r. tt) t
 
 pub delivered_in_told : (t : Tabled) (before after : ℕ) {r : DeliveredAnswer} → r ≡ delivered_in t before after
     → (r ≡ delivered_in t before after) × AsFromFile (λ file. delivered_from file before after) (λ v. ReadOffBothOwn v before after) t r
 unfolding delivered_in delivered_from
 delivered_in_told t before after =
-    told DeliveredAnswer.Refused (λ d s rows. delivered_answer d s rows before after) (λ v. ReadOffBothOwn v before after)
+    told Err (λ d s rows. delivered_answer d s rows before after) (λ v. ReadOffBothOwn v before after)
     (λ v. read_off_both _ _ _ before after) (λ v r. tt) t
 
 -- and what is promised leaves no other answer
 module _ (v : Survey) where
   pub own_litres_only : (h x : ℕ) → sound_table (diameter_units v.tank.dh) v.step (table_of v) ≡ true → h ≤ diameter_units v.tank.dh
-      → ReadOffOwn v h (LitresAnswer.Litres (volume x)) → x ≡ litres (diameter_units v.tank.dh) v.step (table_of v) h
+      → ReadOffOwn v h (Ok (volume x)) → x ≡ litres (diameter_units v.tank.dh) v.step (table_of v) h
   own_litres_only h x sound l told = read_off_only (diameter_units v.tank.dh) v.step (table_of v) h x sound l told
 
-  pub own_height_only : (w h : ℕ) → ReachedOwn v w (HeightAnswer.Height (dip_height h))
+  pub own_height_only : (w h : ℕ) → ReachedOwn v w (Ok (dip_height h))
       → height_for (diameter_units v.tank.dh) v.step (table_of v) w ≡ h
   own_height_only w h told = reached_only (diameter_units v.tank.dh) v.step (table_of v) w h told
 
   pub own_difference_only : (before after : ℕ) (d : ℤ) → sound_table (diameter_units v.tank.dh) v.step (table_of v) ≡ true
-      → before ≤ diameter_units v.tank.dh → after ≤ diameter_units v.tank.dh → ReadOffBothOwn v before after (DeliveredAnswer.Litres d)
-      → delivered_answer (diameter_units v.tank.dh) v.step (table_of v) before after ≡ DeliveredAnswer.Litres d
+      → before ≤ diameter_units v.tank.dh → after ≤ diameter_units v.tank.dh → ReadOffBothOwn v before after (Ok d)
+      → delivered_answer (diameter_units v.tank.dh) v.step (table_of v) before after ≡ Ok d
   own_difference_only before after d sound l m told =
       read_off_both_only (diameter_units v.tank.dh) v.step (table_of v) before after d sound l m told

@@ -1,9 +1,8 @@
 -- A survey file's own table with what a lookup takes beside it: DH, the step and the row count; or the refusal, with all numbers 0.
 -- Assumes nothing.
-use Rattle.std.specs.Prelude.{ℕ, List, take, replicate}
+use Rattle.refusal.specs.Test.{Verdict}
+use Rattle.std.specs.Prelude.{ℕ, List, take, replicate, Ok, Err}
 use Rattle.measure.specs.Quantity.{diameter_units}
-use Rattle.refusal.specs.declared.Verdict.{Verdict}
-use Rattle.refusal.specs.declared.Verdict.TheVariants.{Passed, Refused}
 use Rattle.schedule.specs.Rows.{most_rows}
 use Rattle.survey.specs.declared.decode.Decoded.{Decoded}
 use Rattle.survey.specs.declared.decode.Survey.{Survey}
@@ -16,8 +15,8 @@ unfoldable pub no_rows : List ℕ
 no_rows = replicate most_rows 0
 
 abbrev pub tabled_by : Verdict → Survey → List ℕ → Tabled
-tabled_by Passed v table = record { verdict = Passed; dh = diameter_units v.tank.dh; step = v.step; rows = rows_in v; table = table }
-tabled_by (Refused r) v table = record { verdict = Refused r; dh = 0; step = 0; rows = 0; table = table }
+tabled_by (Ok tt) v table = record { verdict = Ok tt; dh = diameter_units v.tank.dh; step = v.step; rows = rows_in v; table = table }
+tabled_by (Err r) v table = record { verdict = Err r; dh = 0; step = 0; rows = 0; table = table }
 
 unfoldable pub tabled : Decoded → Tabled
 tabled file = tabled_by (verdict_on file most_rows) file.survey (table_left file no_rows)

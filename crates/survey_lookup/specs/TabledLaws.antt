@@ -1,14 +1,12 @@
 -- What a survey file's own table tells: the verdict on the file, and where that refuses nothing the numbers and rows of its survey.
 -- Assumes nothing.
-use Rattle.std.specs.Prelude.{ℕ, ◌≤◌, ◌≡◌, refl, List, length, take}
+use Rattle.std.specs.Prelude.{ℕ, ◌≤◌, ◌≡◌, refl, List, length, take, Ok, Err}
 use Rattle.std.proofs.Common.{sym, ◌∙◌, ap, arith, length-take}
 use Rattle.std.proofs.lemmas.List.{length-replicate}
 use Rattle.laws.specs.FillLaws.{length_rows_of}
 use Rattle.measure.specs.Quantity.{diameter_units}
 use Rattle.refusal.specs.declared.Refusal.{Refusal}
-use Rattle.refusal.specs.declared.Verdict.{Verdict}
-use Rattle.refusal.specs.declared.Verdict.TheVariants.{Passed, Refused}
-use Rattle.refusal.specs.Test.{verdict}
+use Rattle.refusal.specs.Test.{verdict, Verdict}
 use Rattle.refusal.specs.TestLaws.{passed_both}
 use Rattle.schedule.specs.Rows.{smallest_step, row_count, most_rows}
 use Rattle.schedule.specs.RowsLaws.{few_rows}
@@ -34,8 +32,8 @@ unfolding tabled
 tabled_verdict file = go (verdict_on file most_rows) file.survey (table_left file no_rows)
   where
     go : (w : Verdict) (v : Survey) (table : List ℕ) → (tabled_by w v table).verdict ≡ w
-    go Passed v table = refl
-    go (Refused r) v table = refl
+    go (Ok tt) v table = refl
+    go (Err r) v table = refl
 
 pub record Ready (v : Survey) (t : Tabled) : Type 0 where
   pub step_low : smallest_step ≤ t.step
@@ -44,7 +42,7 @@ pub record Ready (v : Survey) (t : Tabled) : Type 0 where
   pub inside : t.rows ≤ length t.table
   pub front : take t.rows t.table ≡ table_of v
 
-ready : (file : Decoded) → WithinLimits file → (tabled file).verdict ≡ Passed → Ready file.survey (tabled file)
+ready : (file : Decoded) → WithinLimits file → (tabled file).verdict ≡ Ok tt → Ready file.survey (tabled file)
 unfolding tabled
 ready file within is-passed =
     let v = file.survey in
@@ -61,7 +59,7 @@ ready file within is-passed =
     })
 
 -- of a file of any bytes
-pub ready_file : (s : List ℕ) {t : Tabled} → t ≡ tabled (decoded s) → t.verdict ≡ Passed → Ready (decoded s).survey t
+pub ready_file : (s : List ℕ) {t : Tabled} → t ≡ tabled (decoded s) → t.verdict ≡ Ok tt → Ready (decoded s).survey t
 ready_file s is is-passed = rw is (ready (decoded s) (decoded_fits s) (sym (ap (λ t. t.verdict) is) ∙ is-passed))
 
 -- any lookup on a file's own table is the answer from the file
@@ -73,5 +71,5 @@ answer_in_file {A} refused look file = go (verdict_on file most_rows) refl
     go : (w : Verdict) → verdict_on file most_rows ≡ w
         → answer_in refused look (tabled_by w file.survey (table_left file no_rows))
         ≡ answer_by refused look w (diameter_units file.survey.tank.dh) file.survey.step (table_of file.survey)
-    go Passed e = ap (look _ _) (front_is_table file no_rows (rw no_rows_room e))
-    go (Refused r) e = refl
+    go (Ok tt) e = ap (look _ _) (front_is_table file no_rows (rw no_rows_room e))
+    go (Err r) e = refl

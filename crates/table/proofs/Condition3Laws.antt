@@ -1,5 +1,5 @@
 -- Every cell that the call writes is the net row, and condition 3 holds of it. Assumes nothing.
-use Rattle.std.specs.Prelude.{ℕ, ◌<◌, ◌≡◌, refl, true, List, ◌++◌, pos, negsuc, nat_abs, ◌+ℤ◌, length, drop}
+use Rattle.std.specs.Prelude.{ℕ, ◌<◌, ◌≡◌, refl, true, List, ◌++◌, pos, negsuc, nat_abs, ◌+ℤ◌, length, drop, Ok, Err}
 use Rattle.std.proofs.Common.{sym, ◌∙◌, ap, arith}
 use Rattle.std.proofs.Math.IntN.{ℤ, -ℤ-+ℤ_cancel}
 use Rattle.std.proofs.Math.ListN.{get_or-append}
@@ -7,9 +7,7 @@ use Rattle.std.specs.Int.Signed.{non_neg}
 use Rattle.laws.specs.BoolLaws.{true_not_false}
 use Rattle.laws.specs.Fill.{rows_of}
 use Rattle.laws.specs.FillLaws.{length_rows_of, get_or_rows_of}
-use Rattle.refusal.specs.declared.Verdict.{Verdict}
-use Rattle.refusal.specs.declared.Verdict.TheVariants.{Passed, Refused}
-use Rattle.refusal.specs.Test.{verdict}
+use Rattle.refusal.specs.Test.{verdict, Verdict}
 use Rattle.refusal.specs.TestLaws.{passed_both}
 use Rattle.tank.proofs.Condition3Laws.{condition3}
 use Rattle.survey.specs.declared.decode.Decoded.{Decoded}
@@ -38,7 +36,7 @@ row_holds v table i l e =
 
 -- what follows from a cell that is the net row holds of every row of the table that a call leaves ..
 every_row_left : (claim : Survey → List ℕ → ℕ → Type 0) (file : Decoded) (table : List ℕ)
-    → ((left : List ℕ) (i : ℕ) → file.verdict ≡ Passed → NetRowAt file.survey left i → claim file.survey left i)
+    → ((left : List ℕ) (i : ℕ) → file.verdict ≡ Ok tt → NetRowAt file.survey left i → claim file.survey left i)
     → EveryRow claim file.survey (made file (length table)) (table_left file table)
 unfolding made table_left
 every_row_left claim file table follows = by_verdict (verdict_on file (length table)) refl
@@ -48,14 +46,14 @@ every_row_left claim file table follows = by_verdict (verdict_on file (length ta
 
     by_verdict : (w : Verdict) → verdict_on file (length table) ≡ w
         → EveryRow claim v (answer_by w v) (left_by w (cell_of v) (rows_in v) table)
-    by_verdict Passed e = λ i l.
+    by_verdict (Ok tt) e = λ i l.
         let both = passed_both file.verdict (verdict (table_tests v (length table))) e in
         let cells = rows_of (cell_of v) (rows_in v) in
         let inside : i < rows_in v = omega arith in
         follows (cells ++ drop (rows_in v) table) i both.0
         (ap pos (get_or-append cells (drop (rows_in v) table) 0 i (omega (arith, length_rows_of (cell_of v) (rows_in v))) ∙ get_or_rows_of (cell_of v) 0 (rows_in v) i inside)
         ∙ natural_size (net_row v i) (none_below_zero v (length table) both.1 i inside))
-    by_verdict (Refused r) e = tt
+    by_verdict (Err r) e = tt
 
 -- .. that it is, and condition 3
 pub net_rows_left : (file : Decoded) (table : List ℕ) → EveryRow NetRowAt file.survey (made file (length table)) (table_left file table)

@@ -1,12 +1,10 @@
 -- Refusal 10, a net row below zero, is retired (document 02, E6): in every table that is made no row is below zero, so with the tests that
 -- refusal 10 had every file gets the verdict that it gets without them. Assumes nothing.
-use Rattle.std.specs.Prelude.{ℕ, ◌<◌, ◌≡◌, refl, true}
+use Rattle.std.specs.Prelude.{ℕ, ◌<◌, ◌≡◌, refl, true, Ok, Err}
 use Rattle.std.proofs.Common.{◌∙◌, ap, arith}
 use Rattle.std.specs.Int.Signed.{non_neg}
 use Rattle.measure.specs.declared.diameter.Diameter.{Diameter}
-use Rattle.refusal.specs.declared.Verdict.{Verdict}
-use Rattle.refusal.specs.declared.Verdict.TheVariants.{Passed, Refused}
-use Rattle.refusal.specs.Test.{verdict, items, first_refusal}
+use Rattle.refusal.specs.Test.{verdict, items, first_refusal, Verdict}
 use Rattle.refusal.specs.TestLaws.{verdict_append, passed_both, all_passed}
 use Rattle.survey.specs.declared.decode.Decoded.{Decoded}
 use Rattle.survey.specs.declared.decode.Survey.{Survey}
@@ -30,8 +28,8 @@ same_verdict v cells =
     verdict_append (table_tests v cells) (items (rows_in v) (below_zero_test (net_row v))) ∙ by_verdict (verdict (table_tests v cells)) refl
   where
     by_verdict : (w : Verdict) → verdict (table_tests v cells) ≡ w → first_refusal w (verdict (items (rows_in v) (below_zero_test (net_row v)))) ≡ w
-    by_verdict Passed e = all_passed (rows_in v) (below_zero_test (net_row v)) (λ i l. rw (none_below_zero v cells e i l))
-    by_verdict (Refused r) e = refl
+    by_verdict (Ok tt) e = all_passed (rows_in v) (below_zero_test (net_row v)) (λ i l. rw (none_below_zero v cells e i l))
+    by_verdict (Err r) e = refl
 
 -- the verdict before, on any file and for a lent table of any length, is the verdict
 pub same_verdict_on : (file : Decoded) (cells : ℕ) → first_refusal file.verdict (verdict (tests_before file.survey cells)) ≡ verdict_on file cells

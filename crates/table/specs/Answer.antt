@@ -1,9 +1,7 @@
 -- The call's whole answer and the table that it leaves: the refusal of the file, then those of its rows, in the paper's order.
 -- Assumes nothing.
-use Rattle.std.specs.Prelude.{ℕ, List, length}
-use Rattle.refusal.specs.declared.Verdict.{Verdict}
-use Rattle.refusal.specs.declared.Verdict.TheVariants.{Passed, Refused}
-use Rattle.refusal.specs.Test.{verdict, first_refusal}
+use Rattle.std.specs.Prelude.{ℕ, List, length, Ok, Err}
+use Rattle.refusal.specs.Test.{verdict, first_refusal, Verdict}
 use Rattle.survey.specs.declared.decode.Decoded.{Decoded}
 use Rattle.survey.specs.declared.decode.Survey.{Survey}
 use Rattle.rows.specs.Rows.{rows_in, cell_of}
@@ -18,8 +16,8 @@ verdict_on file cells = first_refusal file.verdict (verdict (table_tests file.su
 
 -- D1, D2 and the row count; or the refusal's number and place, which is all of it that the answer keeps
 abbrev pub answer_by : Verdict → Survey → Made
-answer_by Passed v = answers.Table v.tank.d1 v.tank.d2 (rows_in v)
-answer_by (Refused r) v = answers.Refused r.number r.place
+answer_by (Ok tt) v = answers.Table v.tank.d1 v.tank.d2 (rows_in v)
+answer_by (Err r) v = answers.Refused r.number r.place
 
 -- the answer
 unfoldable pub made : Decoded → ℕ → Made

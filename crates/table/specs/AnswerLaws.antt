@@ -1,13 +1,11 @@
 -- What the answer of the call that makes a table tells of the file and of the table that it left, and that bytes in no section change
 -- neither. Assumes nothing.
-use Rattle.std.specs.Prelude.{ℕ, ◌≡◌, List, length, take, drop}
+use Rattle.std.specs.Prelude.{ℕ, ◌≡◌, List, length, take, drop, Ok, Err}
 use Rattle.std.proofs.Math.Path.{refl, sym, ap₂}
 use Rattle.std.proofs.Common.{◌∙◌, arith, take_at}
 use Rattle.laws.specs.FillLaws.{length_rows_of}
 use Rattle.measure.specs.declared.diameter.Diameter.{Diameter}
-use Rattle.refusal.specs.declared.Verdict.{Verdict}
-use Rattle.refusal.specs.declared.Verdict.TheVariants.{Passed, Refused}
-use Rattle.refusal.specs.Test.{verdict, first_refusal}
+use Rattle.refusal.specs.Test.{verdict, first_refusal, Verdict}
 use Rattle.refusal.specs.PlainLaws.{plain, plain_first}
 use Rattle.survey.specs.declared.decode.Decoded.{Decoded}
 use Rattle.survey.specs.declared.decode.Survey.{Survey}
@@ -20,16 +18,16 @@ use Rattle.row_tests.specs.Left.{left_by}
 use Rattle.table.specs.declared.make.Made.{Made}
 use Rattle.table.specs.Answer.{verdict_on, answer_by, made, table_left}
 
-pub made_table : (file : Decoded) (cells : ℕ) {x y : Diameter} {n : ℕ} → made file cells ≡ Made.Table x y n → (verdict_on file cells ≡ Passed) × (n ≡ rows_in file.survey)
+pub made_table : (file : Decoded) (cells : ℕ) {x y : Diameter} {n : ℕ} → made file cells ≡ Made.Table x y n → (verdict_on file cells ≡ Ok tt) × (n ≡ rows_in file.survey)
 unfolding made
 made_table file cells {x} {y} {n} e = go (verdict_on file cells) e
   where
-    go : (v : Verdict) → answer_by v file.survey ≡ Made.Table x y n → (v ≡ Passed) × (n ≡ rows_in file.survey)
-    go Passed h = (refl, cc)
-    go (Refused q) h = absurd (let z : ◌≡◌ {A = ℕ} 0 1 = cc in omega arith)
+    go : (v : Verdict) → answer_by v file.survey ≡ Made.Table x y n → (v ≡ Ok tt) × (n ≡ rows_in file.survey)
+    go (Ok tt) h = (refl, cc)
+    go (Err q) h = absurd (let z : ◌≡◌ {A = ℕ} 0 1 = cc in omega arith)
 
 -- the front of the table that was left is the survey's rows
-pub front_is_table : (file : Decoded) (table : List ℕ) → verdict_on file (length table) ≡ Passed → take (rows_in file.survey) (table_left file table) ≡ table_of file.survey
+pub front_is_table : (file : Decoded) (table : List ℕ) → verdict_on file (length table) ≡ Ok tt → take (rows_in file.survey) (table_left file table) ≡ table_of file.survey
 unfolding table_left
 front_is_table file table e =
     let v = file.survey in
@@ -52,8 +50,8 @@ module _ (file file' : Decoded) (alike : Alike file file') where
       by_plain v v' e = plainly v file.survey ∙ ap₂ answer_by e alike.1 ∙ sym (plainly v' file'.survey)
         where
           plainly : (v : Verdict) (survey : Survey) → answer_by v survey ≡ answer_by (plain v) survey
-          plainly Passed survey = refl
-          plainly (Refused r) survey = refl
+          plainly (Ok tt) survey = refl
+          plainly (Err r) survey = refl
 
   alike_table : (table : List ℕ) → table_left file table ≡ table_left file' table
   unfolding table_left
@@ -63,8 +61,8 @@ module _ (file file' : Decoded) (alike : Alike file file') where
       by_plain v v' e = plainly v file.survey ∙ ap₂ (λ w survey. left_by w (cell_of survey) (rows_in survey) table) e alike.1 ∙ sym (plainly v' file'.survey)
         where
           plainly : (v : Verdict) (survey : Survey) → left_by v (cell_of survey) (rows_in survey) table ≡ left_by (plain v) (cell_of survey) (rows_in survey) table
-          plainly Passed survey = refl
-          plainly (Refused r) survey = refl
+          plainly (Ok tt) survey = refl
+          plainly (Err r) survey = refl
 
 -- so do files that differ only in bytes of no section
 

@@ -1,9 +1,8 @@
 -- A survey without deadwood: its net rows are its gross rows, so none falls below the row before. Where it passes
 -- refusals 1 to 8 and 14 it is therefore answered with a table. Assumes nothing.
-use Rattle.std.specs.Prelude.{ℕ, zero, suc, ◌≤◌, ◌≡◌, refl, true}
+use Rattle.std.specs.Prelude.{ℕ, zero, suc, ◌≤◌, ◌≡◌, refl, true, Ok}
 use Rattle.std.proofs.Common.{◌∙◌, add-one, arith, le-leb}
 use Rattle.measure.specs.Quantity.{diameter_units}
-use Rattle.refusal.specs.declared.Verdict.TheVariants.{Passed}
 use Rattle.refusal.specs.Test.{verdict, items}
 use Rattle.refusal.specs.TestLaws.{all_passed}
 use Rattle.schedule.specs.RowsLaws.{height_next}
@@ -26,13 +25,13 @@ module _ (v : Survey) (limits : SurveyLimits v) (no_items : v.count ≡ 0) where
       rw (net_is_gross v no_items (height_of v i), net_is_gross v no_items (height_of v (suc i)))
       (le-leb _ _ (gross_mono v.tank limits.tank (height_of v i) (height_of v (suc i)) up))
 
-  none_fall : verdict (items (rows_in v) (fall_test (net_row v) (height_of v))) ≡ Passed
+  none_fall : verdict (items (rows_in v) (fall_test (net_row v) (height_of v))) ≡ Ok tt
   none_fall = all_passed (rows_in v) (fall_test (net_row v) (height_of v)) (λ i l. rw (keeps_up_law i))
 
-  pub no_deadwood_passed : (cells : ℕ) → rows_in v ≤ cells → verdict (table_tests v cells) ≡ Passed
+  pub no_deadwood_passed : (cells : ℕ) → rows_in v ≤ cells → verdict (table_tests v cells) ≡ Ok tt
   no_deadwood_passed cells room = room_enough (net_row v) (height_of v) (rows_in v) cells room ∙ none_fall
 
-pub no_deadwood_answered : (file : Decoded) (cells : ℕ) → WithinLimits file → file.verdict ≡ Passed → file.survey.count ≡ 0
+pub no_deadwood_answered : (file : Decoded) (cells : ℕ) → WithinLimits file → file.verdict ≡ Ok tt → file.survey.count ≡ 0
     → rows_in file.survey ≤ cells
     → made file cells ≡ Made.Table file.survey.tank.d1 file.survey.tank.d2 (rows_in file.survey)
 unfolding made

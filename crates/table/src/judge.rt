@@ -1,17 +1,17 @@
 // Whether a file's table can be made by whoever has room for so many rows. Nothing is written.
 ghost use Rattle.std.specs.Prelude.{◌≡◌};
-ghost use Rattle.refusal.specs.Test.{verdict};
+ghost use Rattle.refusal.specs.Test.{verdict, Verdict};
 ghost use Rattle.survey.specs.SurveyLaws.{SurveyLimits, WithinLimits};
 ghost use Rattle.row_tests.specs.Tests.{table_tests};
 ghost use Rattle.table.specs.Answer.{verdict_on};
 
-use refusal::Verdict;
+use refusal::Refusal;
 use row_tests::tests::rows_tested;
 use rows::{net_rows, rows_in};
 use schedule::MOST_ROWS;
 use survey::decode::{Decoded, Survey};
 
-fn rows_judged(v: Survey, cells: usize) -> Verdict
+fn rows_judged(v: Survey, cells: usize) -> Result<(), Refusal>
     requires { SurveyLimits v }
     ensures { result ≡ verdict (table_tests v cells) }
 {
@@ -24,14 +24,14 @@ fn rows_judged(v: Survey, cells: usize) -> Verdict
 }
 
 // Refusals 1 to 9 and 14, for a lent table of so many cells.
-pub fn judged(file: Decoded, cells: usize) -> Verdict
+pub fn judged(file: Decoded, cells: usize) -> Result<(), Refusal>
     requires { WithinLimits file }
     ensures { result ≡ verdict_on file cells }
 {
     let verdict = file.verdict;
     let v = file.survey;
     match verdict {
-        Verdict::Refused(r) => Verdict::Refused(r),
-        Verdict::Passed => rows_judged(v, cells),
+        Err(r) => Err(r),
+        Ok(()) => rows_judged(v, cells),
     }
 }

@@ -1,7 +1,6 @@
 // The call that makes a table from a survey.
 ghost use Rattle.std.specs.Prelude.{◌≡◌, length};
-ghost use Rattle.refusal.specs.declared.Verdict.{Verdict};
-ghost use Rattle.refusal.specs.Test.{verdict};
+ghost use Rattle.refusal.specs.Test.{verdict, Verdict};
 ghost use Rattle.survey.specs.Survey.{decoded};
 ghost use Rattle.survey.specs.SurveyLaws.{SurveyLimits, WithinLimits};
 ghost use Rattle.rows.specs.Rows.{rows_in, cell_of};
@@ -11,7 +10,7 @@ ghost use Rattle.table.specs.Answer.{verdict_on, answer_by, made, table_left};
 ghost use Rattle.table.specs.Condition3.{EveryRow, NetRowAt, Condition3At};
 
 use measure::diameter::Diameter;
-use refusal::Verdict;
+use refusal::Refusal;
 use row_tests::copy::test_and_copy;
 use rows::{net_rows, rows_in};
 use schedule::MOST_ROWS;
@@ -25,7 +24,7 @@ pub enum Made {
 }
 
 // The rows of a survey that is not refused into the table: worked out apart, tested, and copied last.
-fn fill(v: Survey, table: &mut [u32]) -> Verdict
+fn fill(v: Survey, table: &mut [u32]) -> Result<(), Refusal>
     requires { SurveyLimits v }
     ensures value { result ≡ verdict (table_tests v (length table.old)) }
     ensures table_after { table.new ≡ left_by result (cell_of v) (rows_in v) table.old }
@@ -39,7 +38,7 @@ fn fill(v: Survey, table: &mut [u32]) -> Verdict
 }
 
 // The verdict on a decoded file and its rows, with what it is about, and the rows in the table where nothing is refused.
-pub fn filled(file: Decoded, table: &mut [u32]) -> Verdict
+pub fn filled(file: Decoded, table: &mut [u32]) -> Result<(), Refusal>
     requires { WithinLimits file }
     ensures value { result ≡ verdict_on file (length table.old) }
     ensures table_after { table.new ≡ table_left file table.old }
@@ -47,22 +46,22 @@ pub fn filled(file: Decoded, table: &mut [u32]) -> Verdict
     let verdict = file.verdict;
     let v = file.survey;
     match verdict {
-        Verdict::Refused(r) => Verdict::Refused(r),
-        Verdict::Passed => fill(v, table),
+        Err(r) => Err(r),
+        Ok(()) => fill(v, table),
     }
 }
 
 // The answer for a survey, by the verdict on it.
-fn answer(v: Survey, verdict: Verdict) -> Made
-    requires { verdict ≡ Verdict.Passed → SurveyLimits v }
+fn answer(v: Survey, verdict: Result<(), Refusal>) -> Made
+    requires { verdict ≡ Ok tt → SurveyLimits v }
     ensures { result ≡ answer_by verdict v }
 {
     let tank = v.tank;
     let d1 = tank.d1;
     let d2 = tank.d2;
     match verdict {
-        Verdict::Refused(r) => Made::Refused(r.number, r.place),
-        Verdict::Passed => Made::Table(d1, d2, rows_in(v) as u32),
+        Err(r) => Made::Refused(r.number, r.place),
+        Ok(()) => Made::Table(d1, d2, rows_in(v) as u32),
     }
 }
 

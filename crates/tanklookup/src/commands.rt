@@ -1,9 +1,9 @@
 // What can be asked of a table, and the line that is said to each figure.
+ghost use Rattle.refusal.specs.Test.{Verdict};
 ghost use Rattle.io.specs.Counts.{IsPrefixLen};
 
 use arguments::{are_figures, figure_at, is_word, write_said};
 use figures::Figure;
-use refusal::Verdict;
 use report::lookups::{delivered_said, height_said, litres_said};
 use said::{ERR_SIZE, LINE_SIZE, Said};
 use survey_lookup::Tabled;
@@ -93,7 +93,7 @@ pub fn tell_each(rt: &HostRuntime, command: Command, t: Tabled, first: usize, en
         ) {
             return;
         }
-        if let Verdict::Refused(_) = verdict {
+        if let Err(_) = verdict {
             return;
         }
         if let Command::Delivered = command {

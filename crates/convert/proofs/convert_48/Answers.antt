@@ -9,32 +9,32 @@ use Rattle.convert.proofs.convert_48.Goals as goal
 pub written-requires : goal.written-requires
 written-requires c =
     old_passes c.args.survey.now
-    (sym (c.in-Passed.ensures ∙ ap (λ file. verdict_on file most_rows) c.decode_48.ensures.value))
+    (sym (c.in-Ok.ensures ∙ ap (λ file. verdict_on file most_rows) c.decode_48.ensures.value))
 
-pub returns-in-Refused-clause-value : goal.returns-in-Refused-clause-value
+pub returns-in-Err-clause-value : goal.returns-in-Err-clause-value
 unfolding converted
-returns-in-Refused-clause-value c =
+returns-in-Err-clause-value c =
     let s = c.args.survey.now in
-    rw (sym (c.in-Refused.ensures ∙ ap (λ file. verdict_on file most_rows) c.decode_48.ensures.value)) (c.refused.ensures s)
+    rw (sym (c.in-Err.ensures ∙ ap (λ file. verdict_on file most_rows) c.decode_48.ensures.value)) (c.refused.ensures s)
 
-pub returns-in-Refused-clause-keeps : goal.returns-in-Refused-clause-keeps
+pub returns-in-Err-clause-keeps : goal.returns-in-Err-clause-keeps
 unfolding converted
-returns-in-Refused-clause-keeps c =
+returns-in-Err-clause-keeps c =
     let s = c.args.survey.now in
     let is : c.refused.result ≡ converted s =
-    rw (sym (c.in-Refused.ensures ∙ ap (λ file. verdict_on file most_rows) c.decode_48.ensures.value)) (c.refused.ensures s) in
+    rw (sym (c.in-Err.ensures ∙ ap (λ file. verdict_on file most_rows) c.decode_48.ensures.value)) (c.refused.ensures s) in
     rw is (converted_keeps s)
 
-pub returns-in-Passed-clause-value : goal.returns-in-Passed-clause-value
+pub returns-in-Ok-clause-value : goal.returns-in-Ok-clause-value
 unfolding converted
-returns-in-Passed-clause-value c =
+returns-in-Ok-clause-value c =
     let s = c.args.survey.now in
-    rw (sym (c.in-Passed.ensures ∙ ap (λ file. verdict_on file most_rows) c.decode_48.ensures.value)) c.written.ensures
+    rw (sym (c.in-Ok.ensures ∙ ap (λ file. verdict_on file most_rows) c.decode_48.ensures.value)) c.written.ensures
 
-pub returns-in-Passed-clause-keeps : goal.returns-in-Passed-clause-keeps
+pub returns-in-Ok-clause-keeps : goal.returns-in-Ok-clause-keeps
 unfolding converted
-returns-in-Passed-clause-keeps c =
+returns-in-Ok-clause-keeps c =
     let s = c.args.survey.now in
     let is : c.written.result ≡ converted s =
-    rw (sym (c.in-Passed.ensures ∙ ap (λ file. verdict_on file most_rows) c.decode_48.ensures.value)) c.written.ensures in
+    rw (sym (c.in-Ok.ensures ∙ ap (λ file. verdict_on file most_rows) c.decode_48.ensures.value)) c.written.ensures in
     rw is (converted_keeps s)

@@ -3,19 +3,19 @@ use Rattle.survey_lookup.specs.Answer.{litres_in}
 use Rattle.survey_lookup.specs.AnsweredLaws.{litres_in_told}
 use Rattle.survey_lookup.proofs.litres_in.Goals as goal
 
-pub returns-in-Refused-clause-value : goal.returns-in-Refused-clause-value
+pub returns-in-Err-clause-value : goal.returns-in-Err-clause-value
 unfolding litres_in
-returns-in-Refused-clause-value c = rw c.in-Refused.is
+returns-in-Err-clause-value c = rw c.in-Err.is
 
-pub returns-in-Refused-clause-as_from_file : goal.returns-in-Refused-clause-as_from_file
+pub returns-in-Err-clause-as_from_file : goal.returns-in-Err-clause-as_from_file
 unfolding litres_in
-returns-in-Refused-clause-as_from_file c = (litres_in_told c.args.t _ (rw c.in-Refused.is)).1
+returns-in-Err-clause-as_from_file c = (litres_in_told c.args.t _ (rw c.in-Err.is)).1
 
-pub returns-in-Passed-clause-value : goal.returns-in-Passed-clause-value
+pub returns-in-Ok-clause-value : goal.returns-in-Ok-clause-value
 unfolding litres_in
-returns-in-Passed-clause-value c = rw (c.in-Passed.is, ← c.front.ensures) c.litres_at.ensures.value
+returns-in-Ok-clause-value c = rw (c.in-Ok.is, ← c.front.ensures) c.litres_at.ensures.value
 
-pub returns-in-Passed-clause-as_from_file : goal.returns-in-Passed-clause-as_from_file
+pub returns-in-Ok-clause-as_from_file : goal.returns-in-Ok-clause-as_from_file
 unfolding litres_in
-returns-in-Passed-clause-as_from_file c =
-    (litres_in_told c.args.t _ (rw (c.in-Passed.is, ← c.front.ensures) c.litres_at.ensures.value)).1
+returns-in-Ok-clause-as_from_file c =
+    (litres_in_told c.args.t _ (rw (c.in-Ok.is, ← c.front.ensures) c.litres_at.ensures.value)).1

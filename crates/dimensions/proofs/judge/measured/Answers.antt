@@ -1,8 +1,8 @@
 -- `dimensions::judge::measured` meets its contract: the sums are the definition's, and so are the tests made of them. Assumes nothing.
+use Rattle.std.specs.Prelude.{Ok}
 use Rattle.std.proofs.Common.{arith, List, [], ◌∷◌, ◌++◌, ◌≡◌, sym, ◌∙◌, ap, ℕ}
 use Rattle.laws.specs.BoolLaws.{by_test}
-use Rattle.refusal.specs.declared.Verdict.{Verdict}
-use Rattle.refusal.specs.Test.{Test, verdict, first_refusal}
+use Rattle.refusal.specs.Test.{Test, verdict, first_refusal, Verdict}
 use Rattle.refusal.specs.TestLaws.{verdict_append}
 use Rattle.heads.specs.Kind.{kind_of}
 use Rattle.heads.specs.Length.{fits_diameter}
@@ -38,7 +38,7 @@ unfolding dimension_tests
 behind f s e = ap (judged_by f s) (ap (λ v. first_refusal v (verdict (rest f s))) e ∙ sym (verdict_append (lengths_test (sums_of f s) (word s l1_at) ∷ []) (rest f s)))
 
 -- what is found of a file that passes refusal 6, and what its heads make of it
-judged : (f : Format) (s : List ℕ) {found told : Dimensions} → Verdict.Passed ≡ verdict (lengths_test (sums_of f s) (word s l1_at) ∷ [])
+judged : (f : Format) (s : List ℕ) {found told : Dimensions} → (Ok tt) ≡ verdict (lengths_test (sums_of f s) (word s l1_at) ∷ [])
     → found ≡ diameters_judged s (sums_of f s)
     → told ≡ heads_tested (kind_of (word s kind_at)) (word s l3_at) «found»
     → told ≡ judged_by f s (verdict (dimension_tests f s))
@@ -50,10 +50,10 @@ lengths_tested-lengths-requires c =
     let shell = shell_fits c.args.f c.args.s.now (as_they_stand _ _ c.requires.1) in
     rw c.word.ensures (sums.0, omega (arith, shell, sums.0.count), omega (arith, shell, sums.0.count))
 
-pub returns-in-Refused : goal.returns-in-Refused
-returns-in-Refused c =
+pub returns-in-Err : goal.returns-in-Err
+returns-in-Err c =
     let a = c.args in
-    let lengths = rw (c.file_sums-t.ensures.value, c.word.ensures) at c.in-Refused.ensures in
+    let lengths = rw (c.file_sums-t.ensures.value, c.word.ensures) at c.in-Err.ensures in
     behind a.f a.s.now lengths
 
 pub diameters_in-requires-clause-diameters_small : goal.diameters_in-requires-clause-diameters_small

@@ -1,11 +1,11 @@
 -- `lookup::height::height_for` meets its contract: each return is the case of the answer that its tests lead to, which tells the
 -- rest. Assumes nothing.
+use Rattle.std.specs.Prelude.{Ok, Err}
 use Rattle.std.proofs.Common.{arith, ◌≡◌, sym, ◌∙◌, ap, ap₂, true, false, ℕ, ◌-◌, ◌≤◌, List, le-leb, length}
 use Rattle.std.proofs.lemmas.Bool.{lt-leb}
 use Rattle.measure.specs.Quantity.{dip_height, volume_units}
 use Rattle.refusal.specs.Test.{refusal}
 use Rattle.schedule.specs.RowsLaws.{count_pos}
-use Rattle.lookup.specs.declared.height.HeightAnswer.TheVariants.{Height, Refused}
 use Rattle.lookup.specs.Table.{row, last_row, sound_table}
 use Rattle.lookup.specs.TableLaws.{SoundTable, sound}
 use Rattle.lookup.specs.Litres.{litres}
@@ -31,7 +31,7 @@ unfolding height_answer
 returns-then-not-is_sound_table-clause-value c =
     let a = c.args in
     let faulty : sound_table a.dh a.step a.table.now ≡ false = sym c.is_sound_table.ensures ∙ c.if-not-is_sound_table.true in
-    simp faulty (ap Refused c.unsound.ensures)
+    simp faulty (ap Err c.unsound.ensures)
 
 pub overflow_sub-last : goal.overflow_sub-last
 overflow_sub-last c = some-rows c.args.dh c.args.step (sound _ _ _ (sym c.is_sound_table.ensures ∙ c.if-not-is_sound_table.false))
@@ -49,7 +49,7 @@ returns-then-last-w c =
     let last = ap (λ (n : ℕ). row a.table.now (n - 1)) (sound _ _ _ fine).count in
     let told =
     height_told _ _ _ _ (simp (fine, lt-leb (volume_units a.volume) (last_row a.dh a.step a.table.now) (omega (arith, w)))
-    (ap Refused (c.too_much.ensures ∙ ap₂ (λ x y. refusal 13 0 (too_much x y)) w last)))
+    (ap Err (c.too_much.ensures ∙ ap₂ (λ x y. refusal 13 0 (too_much x y)) w last)))
     in
     record { value = told.0; reached = told.1.0; exactly = told.1.1 }
 
@@ -68,5 +68,5 @@ returns c =
     let h = c.lowest.ensures ∙ ap (height_for a.dh a.step a.table.now) w in
     let given = c.of.ensures ∙ ap dip_height h in
     let reaches : volume_units a.volume ≤ last_row a.dh a.step a.table.now = enough (sound _ _ _ fine) (omega (arith, w)) in
-    let told = height_told _ _ _ _ (simp (fine, le-leb _ _ reaches) (ap Height given)) in
+    let told = height_told _ _ _ _ (simp (fine, le-leb _ _ reaches) (ap Ok given)) in
     record { value = told.0; reached = told.1.0; exactly = told.1.1 }

@@ -4,12 +4,12 @@ use Rattle.numbers.specs.Tests.{limit_tests}
 use Rattle.readings.specs.Tests.{corrected_tests}
 use Rattle.readings.proofs.tests.numbers_tested.Goals as goal
 
-pub returns-in-Refused : goal.returns-in-Refused
-returns-in-Refused c =
+pub returns-in-Err : goal.returns-in-Err
+returns-in-Err c =
     let a = c.args in
-    rw (verdict_append (limit_tests a.f a.s.now) (corrected_tests a.f a.s.now), ← c.in-Refused.ensures)
+    rw (verdict_append (limit_tests a.f a.s.now) (corrected_tests a.f a.s.now), ← c.in-Err.ensures)
 
-pub returns-in-Passed : goal.returns-in-Passed
-returns-in-Passed c =
+pub returns-in-Ok : goal.returns-in-Ok
+returns-in-Ok c =
     let a = c.args in
-    rw (verdict_append (limit_tests a.f a.s.now) (corrected_tests a.f a.s.now), ← c.in-Passed.ensures) c.readings_tested.ensures
+    rw (verdict_append (limit_tests a.f a.s.now) (corrected_tests a.f a.s.now), ← c.in-Ok.ensures) c.readings_tested.ensures

@@ -19,19 +19,19 @@ behind f s =
     ∙ ap (first_refusal (verdict (size_tests f s))) (verdict_append (layout_tests f s) (number_tests f s ++ dimension_tests f s)
     ∙ ap (first_refusal (verdict (layout_tests f s))) (verdict_append (number_tests f s) (dimension_tests f s)))
 
-pub returns-in-Refused : goal.returns-in-Refused
-returns-in-Refused c = rw (behind c.args.f c.args.s.now, ← c.in-Refused.ensures)
+pub returns-in-Err : goal.returns-in-Err
+returns-in-Err c = rw (behind c.args.f c.args.s.now, ← c.in-Err.ensures)
 
-pub returns-in-Refused-placed : goal.returns-in-Refused-placed
-returns-in-Refused-placed c = rw (behind c.args.f c.args.s.now, ← c.in_default.ensures, ← c.in-Refused-placed.ensures)
+pub returns-in-Err-placed : goal.returns-in-Err-placed
+returns-in-Err-placed c = rw (behind c.args.f c.args.s.now, ← c.in_default.ensures, ← c.in-Err-placed.ensures)
 
 pub numbers_tested-numbers-requires : goal.numbers_tested-numbers-requires
 numbers_tested-numbers-requires c =
     (c.requires, placed_file c.args.f c.args.s.now c.requires (sym c.in_default.ensures) (sym c.in_default-placed.ensures))
 
-pub returns-in-Refused-numbers : goal.returns-in-Refused-numbers
-returns-in-Refused-numbers c =
-    rw (behind c.args.f c.args.s.now, ← c.in_default.ensures, ← c.in_default-placed.ensures, ← c.in-Refused-numbers.ensures)
+pub returns-in-Err-numbers : goal.returns-in-Err-numbers
+returns-in-Err-numbers c =
+    rw (behind c.args.f c.args.s.now, ← c.in_default.ensures, ← c.in_default-placed.ensures, ← c.in-Err-numbers.ensures)
 
 pub measured-requires : goal.measured-requires
 measured-requires c = (

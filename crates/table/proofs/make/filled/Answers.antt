@@ -7,17 +7,17 @@ use Rattle.row_tests.specs.Left.{left_by}
 use Rattle.table.specs.Answer.{table_left}
 use Rattle.table.proofs.make.filled.Goals as goal
 
-pub returns-in-Refused-clause-table_after : goal.returns-in-Refused-clause-table_after
+pub returns-in-Err-clause-table_after : goal.returns-in-Err-clause-table_after
 unfolding table_left
-returns-in-Refused-clause-table_after c =
+returns-in-Err-clause-table_after c =
     let a = c.args in
-    let refused = ap (λ w. first_refusal w (verdict (table_tests a.file.survey (length a.table.now)))) c.in-Refused.is in
+    let refused = ap (λ w. first_refusal w (verdict (table_tests a.file.survey (length a.table.now)))) c.in-Err.is in
     sym (ap (λ w. left_by w (cell_of a.file.survey) (rows_in a.file.survey) a.table.now) refused)
 
-pub returns-in-Passed-clause-table_after : goal.returns-in-Passed-clause-table_after
+pub returns-in-Ok-clause-table_after : goal.returns-in-Ok-clause-table_after
 unfolding table_left
-returns-in-Passed-clause-table_after c =
+returns-in-Ok-clause-table_after c =
     let a = c.args in
     let v = a.file.survey in
-    let passed = ap (λ w. first_refusal w (verdict (table_tests v (length a.table.now)))) c.in-Passed.is in
+    let passed = ap (λ w. first_refusal w (verdict (table_tests v (length a.table.now)))) c.in-Ok.is in
     c.fill.ensures.table_after ∙ ap (λ w. left_by w (cell_of v) (rows_in v) a.table.now) (c.fill.ensures.value ∙ sym passed)
