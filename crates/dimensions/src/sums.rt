@@ -60,17 +60,14 @@ pub(crate) fn file_sums(f: Format, s: &[u8]) -> Sums
     ensures sums_small { SumsSmall result × (1 ≤ result.lengths) × (1 ≤ result.count) }
 {
     let x = courses(f, s);
-    let count = x.count;
     let mut t = Sums {
         readings: 0,
         lengths: 0,
         thicknesses: 0,
         count: 0,
     };
-    let mut i: usize = 0;
-    while i < count {
+    for i in 0..x.count {
         t = add(t, sum_of(s, record_at(x, i), rise_of(f, s, i)));
-        i += 1;
     }
     t
 }
