@@ -4,7 +4,7 @@ use Rattle.lookup.specs.Answer.{LitresAnswer, HeightAnswer}
 use Rattle.std.specs.Prelude.{ℕ, List, eqb, length, replicate, Ok, Err}
 use Rattle.laws.specs.Order.{pick}
 use Rattle.refusal.specs.declared.About.{About}
-use Rattle.refusal.specs.Test.{about, Verdict}
+use Rattle.refusal.specs.Test.{about, Verdict, verdict_in}
 use Rattle.measure.specs.Quantity.{diameter_units, dip_units, volume_units}
 use Rattle.schedule.specs.Rows.{most_rows}
 use Rattle.file.specs.Format.{format48}
@@ -40,7 +40,7 @@ file_numbers (Ok tt) length file = record { refusal = 0; place = 0; length = len
 file_numbers (Err r) length file = record { refusal = r.number; place = r.place; length = 0; file = replicate most_bytes 0 }
 
 abbrev pub converted_numbers : Converted → ConvertedNumbers
-converted_numbers c = file_numbers c.verdict c.length c.file
+converted_numbers c = file_numbers (verdict_in c) c.length c.file
 
 -- what a test is about in words: how many bytes, and these at the front of a text that is 0 behind them
 abbrev pub words_about : About → Words

@@ -1,10 +1,10 @@
 -- The library's own statements say what the plain numbers promise. Assumes nothing.
+use Rattle.survey.specs.Survey.{survey_in, Decoded}
 use Rattle.refusal.specs.Test.{Verdict}
 use Rattle.std.specs.Prelude.{ℕ, ◌≤◌, ◌<◌, ◌≡◌, true, List, Ok, Err}
 use Rattle.std.proofs.Math.Path.{refl}
 use Rattle.std.proofs.Common.{arith}
 use Rattle.laws.specs.Exactly.{Exactly}
-use Rattle.survey.specs.declared.decode.Decoded.{Decoded}
 use Rattle.survey.specs.declared.decode.Survey.{Survey}
 use Rattle.rewrite.specs.Rewritten.{most_bytes}
 use Rattle.table.specs.Answer.{made, answer_by, verdict_on}
@@ -22,12 +22,12 @@ use Rattle.answers.specs.Promises.{EveryCounted, OnTableAnswered, LowestAnswered
 use Rattle.answers.specs.RefusalLaws.{litres_answered, height_answered, convert_answered}
 
 pub counted : (claim : Survey → List ℕ → ℕ → Type 0) (file : Decoded) (cells : ℕ) (table : List ℕ)
-    → EveryRow claim file.survey (made file cells) table → EveryCounted claim file.survey (table_numbers (made file cells)).rows table
+    → EveryRow claim (survey_in file) (made file cells) table → EveryCounted claim (survey_in file) (table_numbers (made file cells)).rows table
 unfolding made
 counted claim file cells table = by_verdict (verdict_on file cells)
   where
-    by_verdict : (w : Verdict) → EveryRow claim file.survey (answer_by w file.survey) table
-        → EveryCounted claim file.survey (table_numbers (answer_by w file.survey)).rows table
+    by_verdict : (w : Verdict) → EveryRow claim (survey_in file) (answer_by w (survey_in file)) table
+        → EveryCounted claim (survey_in file) (table_numbers (answer_by w (survey_in file))).rows table
     by_verdict (Ok tt) holds = holds
     by_verdict (Err r) holds = λ i l. absurd (omega arith)
 

@@ -1,6 +1,5 @@
 // An answer as plain numbers, laid out as C lays them out: the refusal's number and place, both 0 where nothing is refused, and
 // the figures, all 0 in a refusal. No refusal has number 0 (specs/RefusalLaws.antt).
-ghost use Rattle.refusal.specs.Test.{Verdict};
 ghost use Rattle.std.specs.Prelude.{◌≡◌, ◌≤◌};
 ghost use Rattle.rewrite.specs.Rewritten.{most_bytes};
 ghost use Rattle.answers.specs.Numbers.{table_numbers, litres_numbers, height_numbers, converted_numbers};

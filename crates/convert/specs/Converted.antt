@@ -1,6 +1,6 @@
 -- What converting a file with a header of 48 bytes gives (document 02, E4): the file in today's format where making its table, with room for
 -- every row, meets no refusal; else the refusal. And that what was made of the old file is made of the new one. Assumes nothing.
-use Rattle.refusal.specs.Test.{Verdict}
+use Rattle.refusal.specs.Test.{Verdict, verdict_in}
 use Rattle.std.specs.Prelude.{ℕ, ◌≡◌, List, ◌++◌, length, take, drop, replicate, Ok, Err}
 use Rattle.schedule.specs.Rows.{most_rows}
 use Rattle.file.specs.Format.{format48}
@@ -28,7 +28,7 @@ file_in r = take r.length r.file
 -- those of the old file
 abbrev pub Keeps : List ℕ → Converted → Type 0
 Keeps s r =
-    r.verdict ≡ Ok tt
+    verdict_in r ≡ Ok tt
     → (verdict_on (decoded (file_in r)) most_rows ≡ Ok tt)
     × ((table : List ℕ) → (made (decoded (file_in r)) (length table) ≡ made (decoded_as format48 s) (length table))
     × (table_left (decoded (file_in r)) table ≡ table_left (decoded_as format48 s) table))

@@ -3,10 +3,10 @@ use Rattle.std.specs.Prelude.{◌≡◌, refl, List, ℕ, ◌≤◌, length, Ok,
 use Rattle.std.proofs.Common.{◌∙◌, ap, arith}
 use Rattle.std.proofs.Math.Seq.{take-append_seam}
 use Rattle.schedule.specs.Rows.{most_rows}
-use Rattle.refusal.specs.Test.{verdict, Verdict}
+use Rattle.refusal.specs.Test.{verdict, Verdict, verdict_in}
 use Rattle.refusal.specs.TestLaws.{refused_not_passed, passed_both}
 use Rattle.file.specs.Format.{format48}
-use Rattle.survey.specs.Survey.{decoded_as, decoded}
+use Rattle.survey.specs.Survey.{decoded_as, decoded, survey_in}
 use Rattle.rewrite.specs.Rewritten.{rewritten, most_bytes}
 use Rattle.rewrite.proofs.RewrittenLaws.{rewritten_fits, rewritten_decoded}
 use Rattle.row_tests.specs.Tests.{table_tests}
@@ -15,8 +15,8 @@ use Rattle.convert.specs.Converted.{converted_by, converted, file_in, Keeps}
 
 -- an old file that is accepted
 module _ (s : List ℕ) (e : verdict_on (decoded_as format48 s) most_rows ≡ Ok tt) where
-  pub old_passes : (decoded_as format48 s).verdict ≡ Ok tt
-  old_passes = let old = decoded_as format48 s in (passed_both old.verdict (verdict (table_tests old.survey most_rows)) e).0
+  pub old_passes : verdict_in (decoded_as format48 s) ≡ Ok tt
+  old_passes = let old = decoded_as format48 s in (passed_both (verdict_in old) (verdict (table_tests (survey_in old) most_rows)) e).0
 
   -- the file that is written has its survey
   same_survey : decoded (file_in (converted_by (Ok tt) s)) ≡ decoded_as format48 s

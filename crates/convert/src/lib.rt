@@ -2,7 +2,7 @@
 // rows too.
 #![tactic(auto)]
 
-ghost use Rattle.refusal.specs.Test.{Verdict};
+ghost use Rattle.refusal.specs.Test.{verdict_in};
 ghost use Rattle.std.specs.Prelude.{◌≡◌, List, ℕ};
 ghost use Rattle.file.specs.Format.{format48};
 ghost use Rattle.survey.specs.Survey.{decoded_as};
@@ -33,7 +33,7 @@ fn refused(refusal: Refusal) -> Converted
 }
 
 fn written(survey: &[u8]) -> Converted
-    requires { (decoded_as format48 survey.now).verdict ≡ (Ok tt) }
+    requires { verdict_in (decoded_as format48 survey.now) ≡ Ok tt }
     ensures { result ≡ converted_by (Ok tt) survey.now }
 {
     let mut file = [0u8; MOST_BYTES];

@@ -1,6 +1,6 @@
 // Refusals 1 to 4, which look at nothing but the file's size, its sections and the head kind.
 ghost use Rattle.std.specs.Prelude.{◌≡◌, [], ◌∷◌, ◌+◌, ◌≤◌, length};
-ghost use Rattle.refusal.specs.Test.{verdict, first_refusal, Verdict};
+ghost use Rattle.refusal.specs.Test.{verdict, first_refusal};
 ghost use Rattle.file.specs.Layout.{kind_at};
 ghost use Rattle.file.specs.Limits.{largest_file};
 ghost use Rattle.file.specs.Section.{seams, seam_items, sections};

@@ -1,6 +1,6 @@
 // A record of the file and its numbers as they are told; and the test of one number (refusal 5).
 ghost use Rattle.std.specs.Prelude.{◌≡◌, [], ◌∷◌, ◌+◌, ◌^◌, ◌≤◌, ◌<◌, length};
-ghost use Rattle.refusal.specs.Test.{verdict, first_refusal, Verdict};
+ghost use Rattle.refusal.specs.Test.{verdict, first_refusal};
 ghost use Rattle.file.specs.Section.{record_at};
 ghost use Rattle.records.specs.Record.{first_sentence, record_of, number_test, limit};
 

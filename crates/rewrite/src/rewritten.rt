@@ -1,4 +1,5 @@
 // A file with a header of 48 bytes, put into lent memory in today's format.
+ghost use Rattle.refusal.specs.Test.{verdict_in};
 ghost use Rattle.std.specs.Prelude.{◌≡◌, ◌++◌, ◌≤◌, length};
 ghost use Rattle.deadwood.specs.Item.{most_items};
 ghost use Rattle.file.specs.Layout.{header_end};
@@ -64,7 +65,7 @@ fn put_sections(out: &mut [u8], at: usize, s: &[u8], c: Section, d: Section) -> 
 
 // The whole file, of one that is not refused.
 pub fn put_rewritten(out: &mut [u8], at: usize, s: &[u8]) -> usize
-    requires { (decoded_as format48 s.now).verdict ≡ (Ok tt) }
+    requires { verdict_in (decoded_as format48 s.now) ≡ Ok tt }
     ensures put { Put at (rewritten s.now) out.old out.new result }
     ensures s_len_bound { length (rewritten s.now) ≤ most_bytes }
     ensures most_bytes_value { MOST_BYTES ≡ most_bytes }

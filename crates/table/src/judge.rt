@@ -1,6 +1,6 @@
 // Whether a file's table can be made by whoever has room for so many rows. Nothing is written.
 ghost use Rattle.std.specs.Prelude.{◌≡◌};
-ghost use Rattle.refusal.specs.Test.{verdict, Verdict};
+ghost use Rattle.refusal.specs.Test.{verdict};
 ghost use Rattle.survey.specs.SurveyLaws.{SurveyLimits, WithinLimits};
 ghost use Rattle.row_tests.specs.Tests.{table_tests};
 ghost use Rattle.table.specs.Answer.{verdict_on};

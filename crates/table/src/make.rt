@@ -1,7 +1,7 @@
 // The call that makes a table from a survey.
 ghost use Rattle.std.specs.Prelude.{◌≡◌, length};
-ghost use Rattle.refusal.specs.Test.{verdict, Verdict};
-ghost use Rattle.survey.specs.Survey.{decoded};
+ghost use Rattle.refusal.specs.Test.{verdict};
+ghost use Rattle.survey.specs.Survey.{decoded, survey_in};
 ghost use Rattle.survey.specs.SurveyLaws.{SurveyLimits, WithinLimits};
 ghost use Rattle.rows.specs.Rows.{rows_in, cell_of};
 ghost use Rattle.row_tests.specs.Tests.{table_tests};
@@ -71,8 +71,8 @@ pub fn tabulate(file: Decoded, table: &mut [u32]) -> Made
     requires { WithinLimits file }
     ensures value { result ≡ made file (length table.old) }
     ensures table_after { table.new ≡ table_left file table.old }
-    ensures net_rows { EveryRow NetRowAt file.survey result table.new }
-    ensures condition3 { EveryRow Condition3At file.survey result table.new }
+    ensures net_rows { EveryRow NetRowAt (survey_in file) result table.new }
+    ensures condition3 { EveryRow Condition3At (survey_in file) result table.new }
 {
     let v = file.survey;
     answer(v, filled(file, table))
@@ -82,8 +82,8 @@ pub fn tabulate(file: Decoded, table: &mut [u32]) -> Made
 pub fn make_table(survey: &[u8], table: &mut [u32]) -> Made
     ensures value { result ≡ made (decoded survey.now) (length table.old) }
     ensures table_after { table.new ≡ table_left (decoded survey.now) table.old }
-    ensures net_rows { EveryRow NetRowAt (decoded survey.now).survey result table.new }
-    ensures condition3 { EveryRow Condition3At (decoded survey.now).survey result table.new }
+    ensures net_rows { EveryRow NetRowAt (survey_in (decoded survey.now)) result table.new }
+    ensures condition3 { EveryRow Condition3At (survey_in (decoded survey.now)) result table.new }
 {
     tabulate(decode(survey), table)
 }
