@@ -36,14 +36,14 @@ fn section_at(records: Records, at: usize, size: usize, s: &[u8]) -> Section
 }
 
 pub fn courses(f: Format, s: &[u8]) -> Section
-    requires { Readable f × (f.header ≤ length s.now) }
+    requires { f.header ≤ length s.now }
     ensures { (result ≡ courses f s.now) × Small result }
 {
     section_at(Records::Courses, layout::COURSES, f.course, s)
 }
 
 pub fn deadwood(f: Format, s: &[u8]) -> Section
-    requires { Readable f × (f.header ≤ length s.now) }
+    requires { f.header ≤ length s.now }
     ensures { (result ≡ deadwood f s.now) × Small result }
 {
     section_at(Records::Deadwood, layout::DEADWOOD, f.deadwood, s)
@@ -51,7 +51,7 @@ pub fn deadwood(f: Format, s: &[u8]) -> Section
 
 // One that the format lacks is empty.
 pub fn seams(f: Format, s: &[u8]) -> Section
-    requires { Readable f × (f.header ≤ length s.now) }
+    requires { f.header ≤ length s.now }
     ensures { (result ≡ seams f s.now) × Small result }
 {
     if f.has_seams() {
@@ -67,7 +67,7 @@ pub fn seams(f: Format, s: &[u8]) -> Section
 
 // How many seam items there must be.
 pub fn seam_items(f: Format, s: &[u8]) -> usize
-    requires { Readable f × (f.header ≤ length s.now) }
+    requires { f.header ≤ length s.now }
     ensures { (result ≡ seam_items f s.now) × (result < 2 ^ 32) }
 {
     if f.has_seams() {
