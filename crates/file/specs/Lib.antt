@@ -5,5 +5,6 @@ pub mod Lengths
 pub mod Layout
 pub mod Format
 pub mod Limits
+pub mod Place
 pub mod Section
 pub mod SectionLaws
