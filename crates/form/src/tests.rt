@@ -67,13 +67,13 @@ fn counts_tested(f: Format, s: &[u8]) -> Result<(), Refusal>
 }
 
 // Refusal 3 of a section's own place.
-fn place_tested(header: usize, file_size: usize, x: Section) -> Result<(), Refusal>
-    requires { (header ≤ largest_file) × (file_size ≤ largest_file) }
-    ensures { result ≡ verdict (place_test header file_size x ∷ []) }
+fn place_tested(f: Format, s: &[u8], x: Section) -> Result<(), Refusal>
+    requires { length s.now ≤ largest_file }
+    ensures { result ≡ verdict (place_test f.header (length s.now) x ∷ []) }
 {
+    let (header, file_size) = (f.header, s.len());
     let sentence = count_sentence(x.records) + 1;
-    let low = header as u32;
-    let high = file_size as u32;
+    let (low, high) = (header as u32, file_size as u32);
     let about = about_of(sentence, x.count as u32, x.offset as u64, low, high);
     one_test(3, 0, is_placed(header, file_size, x), about)
 }
@@ -100,32 +100,18 @@ fn apart_tested(x: Section, y: Section) -> Result<(), Refusal>
     one_test(3, 0, are_apart(x, y), about)
 }
 
-// Refusal 3 of three sections: each one's own place, and then those behind it.
-fn places_tested(
-    header: usize,
-    file_size: usize,
-    x: Section,
-    y: Section,
-    z: Section,
-) -> Result<(), Refusal>
-    requires { (header ≤ largest_file) × (file_size ≤ largest_file) }
-    ensures { result ≡ verdict (place_tests header file_size (x ∷ y ∷ z ∷ [])) }
-{
-    place_tested(header, file_size, x)?;
-    apart_tested(x, y)?;
-    apart_tested(x, z)?;
-    place_tested(header, file_size, y)?;
-    apart_tested(y, z)?;
-    place_tested(header, file_size, z)
-}
-
-// .. of a file's.
+// Refusal 3 of every section: each one's own place, and then those behind it.
 fn sections_tested(f: Format, s: &[u8]) -> Result<(), Refusal>
     requires { (f.header ≤ length s.now) × (length s.now ≤ largest_file) }
     ensures { result ≡ verdict (place_tests f.header (length s.now) (sections f s.now)) }
 {
     let (x, y, z) = (courses(f, s), deadwood(f, s), seams(f, s));
-    places_tested(f.header, s.len(), x, y, z)
+    place_tested(f, s, x)?;
+    apart_tested(x, y)?;
+    apart_tested(x, z)?;
+    place_tested(f, s, y)?;
+    apart_tested(y, z)?;
+    place_tested(f, s, z)
 }
 
 // Refusal 4.
