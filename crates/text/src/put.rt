@@ -4,6 +4,7 @@ ghost use Rattle.std.specs.Prelude.{◌≡◌, [], ◌∷◌, ◌%◌, take};
 ghost use Rattle.text.specs.Digits.{digit_of, digits, two_decimals, hundredths, minus_of};
 ghost use Rattle.text.specs.Put.{Put};
 
+#[tactic(auto, using(crate::specs::PutLaws::put_byte))]
 pub fn put_byte(out: &mut [u8], at: usize, b: u8) -> usize
     ensures { Put at (b ∷ []) out.old out.new result }
 {

@@ -7,8 +7,8 @@ use Rattle.text.proofs.grouped.+put_in_threes.Goals as goal
 pub returns-then-commas-eq0 : goal.returns-then-commas-eq0
 returns-then-commas-eq0 t c =
     elim c.then-commas-eq0.either [
-      inl none ↦ rw (in_threes_none c.args.commas c.args.n none) c.put_digits.ensures
-    | inr few ↦ rw (in_threes_below c.args.commas c.args.n few.1) c.put_digits.ensures
+      | inl none ↦ rw (in_threes_none c.args.commas c.args.n none) c.put_digits.ensures
+      | inr few ↦ rw (in_threes_below c.args.commas c.args.n few.1) c.put_digits.ensures
     ]
 
 pub returns : goal.returns
