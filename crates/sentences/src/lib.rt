@@ -5,7 +5,7 @@ ghost use Rattle.std.specs.Prelude.{◌≤◌, ◌<◌, length};
 ghost use Rattle.text.specs.Put.{Put};
 ghost use Rattle.sentences.specs.Sentences.{words, words_line, words_size};
 
-use crate::blanks::{line_at, put_line};
+use crate::blanks::{line_at, put_filled};
 use refusal::About;
 use text::put::put_byte;
 
@@ -114,8 +114,7 @@ pub fn put_words(out: &mut [u8], at: usize, about: About) -> usize
         \n\n\n\n\n\
         old header of $ bytes: must have >\n\
         ";
-    let from = line_at(text, about.sentence as usize);
-    put_line(out, at, about, text, from)
+    put_filled(out, at, about, line_at(text, about.sentence as usize))
 }
 
 // .. as a line for standard error.

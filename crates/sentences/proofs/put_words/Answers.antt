@@ -7,7 +7,7 @@ use Rattle.sentences.proofs.put_words.Goals as goal
 
 pub returns-clause-put : goal.returns-clause-put
 unfolding sentences
-returns-clause-put c = rw (← words_line_law c.args.about) (rw c.line_at-from.ensures at c.put_line.ensures)
+returns-clause-put c = rw (← words_line_law c.args.about) (rw c.line_at.ensures at c.put_filled.ensures)
 
 pub returns-clause-short : goal.returns-clause-short
 returns-clause-short c = words_short c.args.about (record { item = omega arith; value = omega arith; low = omega arith; high = omega arith })
