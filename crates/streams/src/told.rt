@@ -22,9 +22,9 @@ const INVALID_ARGUMENT: i32 = 22;
 
 const NO_TEXT: i32 = 84;
 
-// Tells of a failure, if there is one, by a name.
-fn tell_end(rt: &HostRuntime, name: &[u8], moved: Moved) {
-    if let Err(error) = moved.end {
+// Tells how it ended, by a name, where that is a failure.
+fn tell_end(rt: &HostRuntime, name: &[u8], end: io::Result<()>) {
+    if let Err(error) = end {
         fail(rt, name, error);
     }
 }
@@ -46,7 +46,7 @@ fn read_told<R: Read>(rt: &HostRuntime, from: &mut R, name: &[u8], buf: &mut [u8
     ensures buf_len_unchanged { length buf.new ≡ length buf.old }
 {
     let got = read_whole(rt, from, buf);
-    tell_end(rt, name, got);
+    tell_end(rt, name, got.end);
     got
 }
 
@@ -94,6 +94,6 @@ pub fn write_output(rt: &HostRuntime, bytes: &[u8]) -> Moved
     ensures { Written (length bytes.now) result }
 {
     let put = write_whole(rt, &mut rt.stdout(), bytes);
-    tell_end(rt, b"standard output", put);
+    tell_end(rt, b"standard output", put.end);
     put
 }
