@@ -28,8 +28,8 @@ impl Deadwood {
         ensures { result ≡ no_item }
     {
         Deadwood {
-            low: DipHeight::of(0),
-            high: DipHeight::of(1),
+            low: DipHeight::from(0),
+            high: DipHeight::from(1),
             volume: 0,
         }
     }

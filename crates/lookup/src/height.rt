@@ -54,5 +54,5 @@ pub fn height_for(dh: u32, step: u32, table: &[u32], volume: Volume) -> HeightAn
     if last < w {
         return HeightAnswer::Refused(too_much(w, last));
     }
-    HeightAnswer::Height(DipHeight::of(lowest(dh, step, table, w, 0, dh)))
+    HeightAnswer::Height(DipHeight::from(lowest(dh, step, table, w, 0, dh)))
 }

@@ -48,5 +48,5 @@ pub fn litres_at(dh: u32, step: u32, table: &[u32], height: DipHeight) -> Litres
     if dh < h {
         return LitresAnswer::Refused(too_high(h, dh));
     }
-    LitresAnswer::Litres(Volume::of(litres_inside(dh, step, table, h)))
+    LitresAnswer::Litres(Volume::from(litres_inside(dh, step, table, h)))
 }

@@ -35,8 +35,8 @@ pub fn row_height(dh: u32, step: u32, i: usize) -> DipHeight
 {
     let h = i * (step as usize);
     if h < dh as usize {
-        DipHeight::of(h as u32)
+        DipHeight::from(h as u32)
     } else {
-        DipHeight::of(dh)
+        DipHeight::from(dh)
     }
 }

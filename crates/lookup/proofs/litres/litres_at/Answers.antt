@@ -38,7 +38,7 @@ returns-clause-value c =
     let fine : sound_table a.dh a.step a.table.now ≡ true = sym c.is_sound_table.ensures ∙ c.if-not-is_sound_table.false in
     let height = c.units-h.ensures in
     simp (fine, le-leb (dip_units a.height) a.dh (omega (arith, height)))
-    (ap Litres (c.of.ensures ∙ ap volume (c.litres_inside.ensures ∙ ap (litres a.dh a.step a.table.now) height)))
+    (ap Litres (c.from.ensures ∙ ap volume (c.litres_inside.ensures ∙ ap (litres a.dh a.step a.table.now) height)))
 
 pub returns-clause-read_off : goal.returns-clause-read_off
 returns-clause-read_off c = (litres_told _ _ _ _ (returns-clause-value c)).1.0
