@@ -1,38 +1,37 @@
 // Sentences with blanks, a line each of one text: the line is found, and its blanks are filled in as it is put into lent memory.
 ghost use Rattle.std.specs.Prelude.{◌≡◌};
-ghost use Rattle.text.specs.Put.{Put};
+ghost use Rattle.text.specs.Wrote.{Wrote};
 ghost use Rattle.sentences.specs.Blanks.{signed, filled_in, filled};
 ghost use Rattle.sentences.specs.Text.{behind_lines, first_line};
 
 use refusal::About;
-use text::grouped::put_grouped;
-use text::put::{put_byte, put_digits, put_minus};
+use text::put::Writer;
 
 // A number with its sign; as hundredths in threes, or its digits.
-fn put_signed(out: &mut [u8], at: usize, z: i64, as_hundredths: bool) -> usize
-    ensures { Put at (signed as_hundredths z) out.old out.new result }
+fn put_signed(w: &mut Writer, z: i64, as_hundredths: bool)
+    ensures { Wrote (signed as_hundredths z) w.old w.new }
 {
-    let signed = put_minus(out, at, z);
+    w.minus(z);
     let size = z.unsigned_abs();
     if as_hundredths {
-        put_grouped(out, signed, size)
+        w.grouped(size);
     } else {
-        put_digits(out, signed, size)
+        w.digits(size);
     }
 }
 
 // A byte of a sentence: a blank, or itself.
 #[tactic(auto, unfolding(crate::specs::Blanks::filled_in))]
-fn put_filled_in(out: &mut [u8], at: usize, x: About, b: u8) -> usize
-    ensures { Put at (filled_in x b) out.old out.new result }
+fn put_filled_in(w: &mut Writer, x: About, b: u8)
+    ensures { Wrote (filled_in x b) w.old w.new }
 {
     match b {
-        b'#' => put_digits(out, at, x.item as u64),
-        b'$' => put_signed(out, at, x.value, false),
-        b'~' => put_signed(out, at, x.value, true),
-        b'<' => put_signed(out, at, x.low, false),
-        b'>' => put_signed(out, at, x.high, false),
-        _ => put_byte(out, at, b),
+        b'#' => w.digits(x.item as u64),
+        b'$' => put_signed(w, x.value, false),
+        b'~' => put_signed(w, x.value, true),
+        b'<' => put_signed(w, x.low, false),
+        b'>' => put_signed(w, x.high, false),
+        _ => w.byte(b),
     }
 }
 
@@ -44,12 +43,10 @@ pub(crate) fn line_at(text: &[u8], n: usize) -> &[u8]
 }
 
 // A sentence with its blanks filled in.
-pub(crate) fn put_filled(out: &mut [u8], at: usize, x: About, sentence: &[u8]) -> usize
-    ensures { Put at (filled x sentence.now) out.old out.new result }
+pub(crate) fn put_filled(w: &mut Writer, x: About, sentence: &[u8])
+    ensures { Wrote (filled x sentence.now) w.old w.new }
 {
-    let mut next = at;
     for b in sentence {
-        next = put_filled_in(out, next, x, *b);
+        put_filled_in(w, x, *b);
     }
-    next
 }

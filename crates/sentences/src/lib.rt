@@ -2,12 +2,12 @@
 #![tactic(auto)]
 
 ghost use Rattle.std.specs.Prelude.{◌≤◌, ◌<◌, length};
-ghost use Rattle.text.specs.Put.{Put};
+ghost use Rattle.text.specs.Wrote.{Wrote};
 ghost use Rattle.sentences.specs.Sentences.{words, words_line, words_size};
 
 use crate::blanks::{line_at, put_filled};
 use refusal::About;
-use text::put::put_byte;
+use text::put::Writer;
 
 mod blanks;
 
@@ -61,8 +61,8 @@ pub const OF_OLD_HEADER: u32 = 88;
 
 // What a test is about, in words: for whoever calls the library. Sentence n is line n; a number that no sentence has is an empty line.
 #[tactic(auto, using(crate::specs::SizeLaws::words_short))]
-pub fn put_words(out: &mut [u8], at: usize, about: About) -> usize
-    ensures put { Put at (words about) out.old out.new result }
+pub fn put_words(w: &mut Writer, about: About)
+    ensures put { Wrote (words about) w.old w.new }
     ensures short { length (words about) < words_size }
 {
     let text = b"\
@@ -116,15 +116,15 @@ pub fn put_words(out: &mut [u8], at: usize, about: About) -> usize
         \n\n\n\n\n\
         old header of $ bytes: must have >\n\
         ";
-    put_filled(out, at, about, line_at(text, about.sentence as usize))
+    put_filled(w, about, line_at(text, about.sentence as usize));
 }
 
 // .. as a line for standard error.
 #[tactic(auto, using(crate::specs::SizeLaws::words_line_size))]
-pub fn put_words_line(out: &mut [u8], at: usize, about: About) -> usize
-    ensures put { Put at (words_line about) out.old out.new result }
+pub fn put_words_line(w: &mut Writer, about: About)
+    ensures put { Wrote (words_line about) w.old w.new }
     ensures short { length (words_line about) ≤ words_size }
 {
-    let said = put_words(out, at, about);
-    put_byte(out, said, b'\n')
+    put_words(w, about);
+    w.byte(b'\n');
 }

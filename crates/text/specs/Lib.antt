@@ -2,6 +2,7 @@
 pub mod Ascii
 pub mod Put
 pub mod PutLaws
+pub mod Wrote
 pub mod Digits
 pub mod DigitsLaws
 pub mod Grouped

@@ -1,73 +1,81 @@
-// Text put into lent memory at a place, piece by piece, as much of it as there is room for. Each function gives the place behind what it
-// put there.
-ghost use Rattle.std.specs.Prelude.{◌≡◌, [], ◌∷◌, ◌%◌, take};
+// Text put into lent memory, piece by piece, as much of it as there is room for.
+ghost use Rattle.std.specs.Prelude.{[], ◌∷◌, ◌%◌, take};
 ghost use Rattle.text.specs.Digits.{digit_of, digits, two_decimals, hundredths, minus_of};
-ghost use Rattle.text.specs.Put.{Put};
+ghost use Rattle.text.specs.Wrote.{Wrote};
 
-#[tactic(auto, using(crate::specs::PutLaws::put_byte))]
-pub fn put_byte(out: &mut [u8], at: usize, b: u8) -> usize
-    ensures { Put at (b ∷ []) out.old out.new result }
-{
-    if out.len() <= at {
-        return at;
+// Lent memory, and the place in it behind what was put there. Each method puts its text at that place, and moves it behind the text.
+#[derive(Drop)]
+pub struct Writer<'a> {
+    pub out: &'a mut [u8],
+    pub at: usize,
+}
+
+impl Writer<'_> {
+    #[tactic(auto, using(crate::specs::PutLaws::put_byte))]
+    pub fn byte(&mut self, b: u8)
+        ensures { Wrote (b ∷ []) self.old self.new }
+    {
+        if self.at < self.out.len() {
+            self.out[self.at] = b;
+            self.at += 1;
+        }
     }
-    out[at] = b;
-    at + 1
-}
 
-pub fn put_bytes(out: &mut [u8], at: usize, s: &[u8]) -> usize
-    ensures { Put at s.now out.old out.new result }
-{
-    let mut next = at;
-    for b in s {
-        next = put_byte(out, next, *b);
+    pub fn bytes(&mut self, s: &[u8])
+        ensures { Wrote s.now self.old self.new }
+    {
+        for b in s {
+            self.byte(*b);
+        }
     }
-    next
-}
 
-// The first n bytes of s; all of it where it has no more.
-#[tactic(auto, using(std::proofs::lemmas::List::take_min))]
-pub fn put_first(out: &mut [u8], at: usize, s: &[u8], n: usize) -> usize
-    ensures { Put at (take n s.now) out.old out.new result }
-{
-    put_bytes(out, at, &s[..n.min(s.len())])
-}
-
-// The last digit of n.
-pub(crate) fn put_digit(out: &mut [u8], at: usize, n: u64) -> usize
-    ensures { Put at (digit_of (n % 10) ∷ []) out.old out.new result }
-{
-    put_byte(out, at, b'0' + (n % 10) as u8)
-}
-
-#[tactic(auto, using(crate::specs::DigitsLaws::digits_one))]
-pub fn put_digits(out: &mut [u8], at: usize, n: u64) -> usize
-    ensures { Put at (digits n) out.old out.new result }
-{
-    if n < 10 {
-        return put_digit(out, at, n);
+    // The first n bytes of s; all of it where it has no more.
+    #[tactic(auto, using(std::proofs::lemmas::List::take_min))]
+    pub fn first(&mut self, s: &[u8], n: usize)
+        ensures { Wrote (take n s.now) self.old self.new }
+    {
+        self.bytes(&s[..n.min(s.len())]);
     }
-    let next = put_digits(out, at, n / 10);
-    put_digit(out, next, n)
-}
 
-pub(crate) fn put_two_decimals(out: &mut [u8], at: usize, n: u64) -> usize
-    ensures { Put at (two_decimals n) out.old out.new result }
-{
-    let pointed = put_byte(out, at, b'.');
-    let tenth = put_digit(out, pointed, n / 10);
-    put_digit(out, tenth, n)
-}
+    // The last digit of n.
+    pub(crate) fn digit(&mut self, n: u64)
+        ensures { Wrote (digit_of (n % 10) ∷ []) self.old self.new }
+    {
+        self.byte(b'0' + (n % 10) as u8);
+    }
 
-pub fn put_hundredths(out: &mut [u8], at: usize, n: u64) -> usize
-    ensures { Put at (hundredths n) out.old out.new result }
-{
-    let whole = put_digits(out, at, n / 100);
-    put_two_decimals(out, whole, n)
-}
+    #[tactic(auto, using(crate::specs::DigitsLaws::digits_one))]
+    pub fn digits(&mut self, n: u64)
+        ensures { Wrote (digits n) self.old self.new }
+    {
+        if n < 10 {
+            self.digit(n);
+            return;
+        }
+        self.digits(n / 10);
+        self.digit(n);
+    }
 
-pub fn put_minus(out: &mut [u8], at: usize, z: i64) -> usize
-    ensures { Put at (minus_of z) out.old out.new result }
-{
-    if z < 0 { put_byte(out, at, b'-') } else { at }
+    pub(crate) fn two_decimals(&mut self, n: u64)
+        ensures { Wrote (two_decimals n) self.old self.new }
+    {
+        self.byte(b'.');
+        self.digit(n / 10);
+        self.digit(n);
+    }
+
+    pub fn hundredths(&mut self, n: u64)
+        ensures { Wrote (hundredths n) self.old self.new }
+    {
+        self.digits(n / 100);
+        self.two_decimals(n);
+    }
+
+    pub fn minus(&mut self, z: i64)
+        ensures { Wrote (minus_of z) self.old self.new }
+    {
+        if z < 0 {
+            self.byte(b'-');
+        }
+    }
 }

@@ -1,5 +1,0 @@
--- The measure is the number: a tenth of it is less.
-use Rattle.text.proofs.put.+put_digits.Given as goal
-
-abbrev pub decreases-put_digits : goal.decreases-put_digits
-decreases-put_digits l = l.n
