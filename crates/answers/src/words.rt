@@ -5,6 +5,7 @@ ghost use Rattle.answers.specs.Numbers.{words_about, words_of};
 
 use refusal::{About, Refusal};
 use sentences::put_words;
+use text::put::Writer;
 
 // The words of a refusal: the first `length` bytes of the text; behind them it is 0, and at least one byte is.
 #[repr(C)]
@@ -20,9 +21,11 @@ pub fn words_about(about: About) -> Words
     ensures length_lt_words_size { result.length < words_size }
 {
     let mut text = [0u8; 256];
-    let length = put_words(&mut text, 0, about);
+    let mut w = Writer { out: &mut text, at: 0 };
+    put_words(&mut w, about);
+    let length = w.at as u32;
     Words {
-        length: length as u32,
+        length,
         text,
     }
 }

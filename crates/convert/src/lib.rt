@@ -13,6 +13,7 @@ use rewrite::rewritten::{MOST_BYTES, put_rewritten};
 use schedule::MOST_ROWS;
 use survey::decode::decode_48;
 use table::judge::judged;
+use text::put::Writer;
 
 // The file is the first `length` bytes, and behind them stands 0.
 #[derive(Clone, Copy)]
@@ -26,7 +27,9 @@ fn written(survey: &[u8]) -> Converted
     ensures { result ≡ written survey.now }
 {
     let mut file = [0u8; MOST_BYTES];
-    let length = put_rewritten(&mut file, 0, survey);
+    let mut w = Writer { out: &mut file, at: 0 };
+    put_rewritten(&mut w, survey);
+    let length = w.at;
     Converted { length, file }
 }
 

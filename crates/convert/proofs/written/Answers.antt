@@ -11,7 +11,7 @@ converted-to length file = record { length = length; file = file }
 
 pub returns : goal.returns
 returns c =
-    let put = c.put_rewritten-length.ensures in
+    let put = c.put_rewritten.ensures in
     let fits : length (rewritten c.args.survey.now) ≤ length {A = ℕ} (replicate most_bytes 0) = rw length-replicate put.s_len_bound in
-    let whole = put_fits put.put fits in
+    let whole = put_fits put.put.put fits in
     ap₂ converted-to whole.1 whole.0

@@ -13,6 +13,6 @@ end-inside s x inside some = by_count x.count refl
     by_count zero e = omega arith
     by_count (suc n) e = omega (arith, ap (λ (k : ℕ). x.size * k) e, inside.inside n (omega arith))
 
-pub slice_bounds-put_bytes-end : goal.slice_bounds-put_bytes-end
-slice_bounds-put_bytes-end c =
+pub slice_bounds-bytes-end : goal.slice_bounds-bytes-end
+slice_bounds-bytes-end c =
     omega (arith, c.end-end.ensures.0, end-inside c.args.s.now c.args.x c.requires (omega arith))

@@ -1,6 +1,6 @@
 -- `rewrite::rewritten::put_rewritten` meets its contract: the header and the sections, with the sections of the old format. Assumes nothing.
 use Rattle.std.proofs.Common.{ℕ, ◌≡◌, ◌∙◌, ap, List, ◌++◌}
-use Rattle.text.specs.PutLaws.{put_both}
+use Rattle.text.specs.Wrote.{wrote_both}
 use Rattle.file.specs.declared.format.Format.{Format}
 use Rattle.file.specs.declared.section.Section.{Section}
 use Rattle.file.specs.Format.{format48}
@@ -27,8 +27,8 @@ courses-c-requires c = rw c.header_of_48-f.ensures (accepted_placed _ c.requires
 pub deadwood-d-requires : goal.deadwood-d-requires
 deadwood-d-requires c = rw c.header_of_48-f.ensures (accepted_placed _ c.requires).header
 
-pub put_header-next-requires : goal.put_header-next-requires
-put_header-next-requires c =
+pub put_header-requires : goal.put_header-requires
+put_header-requires c =
     let old = c.header_of_48-f.ensures in
     let s = c.args.s.now in (
       (accepted_placed s c.requires).header,
@@ -48,7 +48,7 @@ pub returns-clause-put : goal.returns-clause-put
 returns-clause-put c =
     let old = c.header_of_48-f.ensures in
     let s = c.args.s.now in
-    let parts = put_both c.put_header-next.ensures c.put_sections.ensures in
+    let parts = wrote_both c.put_header.ensures c.put_sections.ensures in
     rw (← whole s (old-courses s old c.courses-c.ensures) (old-deadwood s old c.deadwood-d.ensures)) parts
 
 pub returns-clause-s_len_bound : goal.returns-clause-s_len_bound

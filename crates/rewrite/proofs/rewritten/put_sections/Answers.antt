@@ -1,6 +1,6 @@
 -- `rewrite::rewritten::put_sections` meets its contract: one section behind the other, and the zeros. Assumes nothing.
-use Rattle.text.specs.PutLaws.{put_both}
+use Rattle.text.specs.Wrote.{wrote_both}
 use Rattle.rewrite.proofs.rewritten.put_sections.Goals as goal
 
 pub returns : goal.returns
-returns c = put_both c.put_records-next.ensures (put_both c.put_records-next-2.ensures c.put_zeros.ensures)
+returns c = wrote_both c.put_records.ensures (wrote_both c.put_records-2.ensures c.put_zeros.ensures)
