@@ -5,12 +5,12 @@ use Rattle.std.proofs.Math.Path.{refl, ap}
 use Rattle.std.proofs.Common.{arith}
 use Rattle.schedule.specs.Rows.{most_rows}
 use Rattle.refusal.specs.declared.Refusal.{Refusal}
-use Rattle.refusal.specs.Test.{Test, verdict, in_use, Verdict}
+use Rattle.refusal.specs.Test.{Test, verdict, in_use, Verdict, verdict_in}
 use Rattle.sentences.specs.Sentences.{told}
 use Rattle.sentences.specs.KnownLaws.{all_known}
 use Rattle.sentences.proofs.KnownLaws.{each_known, verdict_known, unused_is_passed}
 use Rattle.file.specs.declared.format.Format.{Format}
-use Rattle.survey.specs.Survey.{decoded_as, decoded}
+use Rattle.survey.specs.Survey.{decoded_as, decoded, survey_in}
 use Rattle.file.specs.Format.{format48, today}
 use Rattle.table.specs.Answer.{verdict_on, answer_by, made}
 use Rattle.table.specs.KnownLaws.{refusal_known}
@@ -33,15 +33,15 @@ module _ (n : ℕ) (unused : in_use n ≡ false) where
 
   pub table_answered : (s : List ℕ) (cells : ℕ) → (table_numbers (made (decoded s) cells)).refusal ≡ n → verdict_on (decoded s) cells ≡ Ok tt
   unfolding made decoded
-  table_answered s cells = rows_answered (λ w. (table_numbers (answer_by w (decoded s).survey)).refusal) (λ r. refl) today s cells
+  table_answered s cells = rows_answered (λ w. (table_numbers (answer_by w (survey_in (decoded s)))).refusal) (λ r. refl) today s cells
 
   pub convert_accepted : (s : List ℕ) → (converted_numbers (converted s)).refusal ≡ n → verdict_on (decoded_as format48 s) most_rows ≡ Ok tt
   unfolding converted
   convert_accepted s = rows_answered (λ w. (converted_numbers (converted_by w s)).refusal) (λ r. refl) format48 s most_rows
 
-  pub convert_answered : (s : List ℕ) → (converted_numbers (converted s)).refusal ≡ n → (converted s).verdict ≡ Ok tt
+  pub convert_answered : (s : List ℕ) → (converted_numbers (converted s)).refusal ≡ n → verdict_in (converted s) ≡ Ok tt
   unfolding converted
-  convert_answered s e = ap (λ w. (converted_by w s).verdict) (convert_accepted s e)
+  convert_answered s e = ap (λ w. (verdict_in (converted_by w s))) (convert_accepted s e)
 
   pub litres_answered : (dh step : ℕ) (rows : List ℕ) (h : ℕ) → (litres_numbers (litres_answer dh step rows h)).refusal ≡ n
       → verdict (litres_tests dh step rows h) ≡ Ok tt
@@ -61,10 +61,10 @@ pub never_10 :
     × ((s : List ℕ) → (converted_numbers (converted s)).refusal ≡ 10 → ⊥)
     × ((dh step : ℕ) (rows : List ℕ) (h : ℕ) → (litres_numbers (litres_answer dh step rows h)).refusal ≡ 10 → ⊥)
     × ((dh step : ℕ) (rows : List ℕ) (w : ℕ) → (height_numbers (height_answer dh step rows w)).refusal ≡ 10 → ⊥)
-unfolding made litres_answer height_answer
+unfolding made converted litres_answer height_answer
 never_10 = (
   λ s cells e. omega (arith, rw (table_answered 10 refl s cells e) at e),
-  λ s e. omega (arith, rw (convert_answered 10 refl s e) at e),
+  λ s e. omega (arith, rw (convert_accepted 10 refl s e) at e),
   λ dh step rows h e. omega (arith, rw (litres_answered 10 refl dh step rows h e) at e),
   λ dh step rows w e. omega (arith, rw (height_answered 10 refl dh step rows w e) at e),
 )

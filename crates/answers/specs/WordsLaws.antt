@@ -14,7 +14,7 @@ use Rattle.sentences.specs.KnownLaws.{KnownIn}
 use Rattle.sentences.proofs.KnownLaws.{known_words}
 use Rattle.file.specs.declared.format.Format.{Format}
 use Rattle.file.specs.Format.{format48, today}
-use Rattle.survey.specs.Survey.{decoded_as, decoded}
+use Rattle.survey.specs.Survey.{decoded_as, decoded, survey_in}
 use Rattle.survey.specs.KnownLaws.{refused_by_its_test}
 use Rattle.row_tests.specs.Tests.{table_tests}
 use Rattle.table.specs.Answer.{verdict_on, made}
@@ -56,6 +56,6 @@ conversion_words_law header s =
 
 -- the words of a refusal are about the first test that fails, of all tests in their order
 pub words_of_its_test : (f : Format) (s : List ℕ) (cells : ℕ) (r : Refusal) (e : verdict_on (decoded_as f s) cells ≡ Err r)
-    → words_of (verdict_on (decoded_as f s) cells) ≡ words_about (refused_by_its_test f s (table_tests (decoded_as f s).survey cells) r e).failed.about
+    → words_of (verdict_on (decoded_as f s) cells) ≡ words_about (refused_by_its_test f s (table_tests (survey_in (decoded_as f s)) cells) r e).failed.about
 words_of_its_test f s cells r e =
-    ap words_of e ∙ ap (λ q. words_about q.about) (refused_by_its_test f s (table_tests (decoded_as f s).survey cells) r e).is
+    ap words_of e ∙ ap (λ q. words_about q.about) (refused_by_its_test f s (table_tests (survey_in (decoded_as f s)) cells) r e).is

@@ -1,5 +1,4 @@
 // A refusal in words, laid out as C lays it out.
-ghost use Rattle.refusal.specs.Test.{Verdict};
 ghost use Rattle.std.specs.Prelude.{◌≡◌, ◌<◌};
 ghost use Rattle.sentences.specs.Sentences.{words_size};
 ghost use Rattle.answers.specs.Numbers.{words_about, words_of};
@@ -38,9 +37,6 @@ pub fn in_words(verdict: Result<(), Refusal>) -> Words
             length: 0,
             text: [0u8; 256],
         },
-        Err(r) => {
-            let about = r.about;
-            words_about(about)
-        }
+        Err(r) => words_about(r.about),
     }
 }

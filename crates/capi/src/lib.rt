@@ -6,7 +6,7 @@
 ghost use Rattle.std.specs.Prelude.{◌≡◌, ◌≤◌, ◌<◌, length};
 ghost use Rattle.laws.specs.Exactly.{Exactly};
 ghost use Rattle.file.specs.Format.{format48};
-ghost use Rattle.survey.specs.Survey.{decoded};
+ghost use Rattle.survey.specs.Survey.{decoded, survey_in};
 ghost use Rattle.rewrite.specs.Rewritten.{most_bytes};
 ghost use Rattle.table.specs.Answer.{verdict_on, made, table_left};
 ghost use Rattle.table.specs.Condition3.{NetRowAt, Condition3At};
@@ -37,8 +37,8 @@ use table::make::make_table;
 pub fn milechime_table(survey: &[u8], table: &mut [u32]) -> TableNumbers
     ensures value { result ≡ table_numbers (made (decoded survey.now) (length table.old)) }
     ensures table_after { table.new ≡ table_left (decoded survey.now) table.old }
-    ensures net_rows { EveryCounted NetRowAt (decoded survey.now).survey result.rows table.new }
-    ensures condition3 { EveryCounted Condition3At (decoded survey.now).survey result.rows table.new }
+    ensures net_rows { EveryCounted NetRowAt (survey_in (decoded survey.now)) result.rows table.new }
+    ensures condition3 { EveryCounted Condition3At (survey_in (decoded survey.now)) result.rows table.new }
 {
     table_numbers(make_table(survey, table))
 }
@@ -49,7 +49,7 @@ pub fn milechime_litres(dh: u32, step: u32, table: &[u32], height: u32) -> Litre
     ensures on_table_answered { OnTableAnswered dh step table.now height result }
     ensures exactly { Exactly (result.refusal ≡ 12) (TooHigh dh step table.now height) }
 {
-    litres_numbers(litres_at(dh, step, table, DipHeight::of(height)))
+    litres_numbers(litres_at(dh, step, table, DipHeight::from(height)))
 }
 
 // The lowest dip height for a volume.
@@ -58,7 +58,7 @@ pub fn milechime_height(dh: u32, step: u32, table: &[u32], volume: u32) -> Heigh
     ensures lowest_answered { LowestAnswered dh step table.now volume result }
     ensures exactly { Exactly (result.refusal ≡ 13) (TooMuch dh step table.now volume) }
 {
-    height_numbers(height_for(dh, step, table, Volume::of(volume)))
+    height_numbers(height_for(dh, step, table, Volume::from(volume)))
 }
 
 // An old survey, with a header of 48 bytes, in today's format; its table stays.

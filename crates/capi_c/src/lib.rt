@@ -5,7 +5,7 @@
 ghost use Rattle.std.specs.Prelude.{◌≡◌, ◌≤◌, ◌<◌, length};
 ghost use Rattle.laws.specs.Exactly.{Exactly};
 ghost use Rattle.file.specs.Format.{format48};
-ghost use Rattle.survey.specs.Survey.{decoded};
+ghost use Rattle.survey.specs.Survey.{decoded, survey_in};
 ghost use Rattle.rewrite.specs.Rewritten.{most_bytes};
 ghost use Rattle.table.specs.Answer.{verdict_on, made, table_left};
 ghost use Rattle.table.specs.Condition3.{NetRowAt, Condition3At};
@@ -23,8 +23,8 @@ use answers::words::Words;
 pub extern "C" fn milechime_table(survey: &[u8], table: &mut [u32]) -> TableNumbers
     ensures value { result ≡ table_numbers (made (decoded survey.now) (length table.old)) }
     ensures table_after { table.new ≡ table_left (decoded survey.now) table.old }
-    ensures net_rows { EveryCounted NetRowAt (decoded survey.now).survey result.rows table.new }
-    ensures condition3 { EveryCounted Condition3At (decoded survey.now).survey result.rows table.new }
+    ensures net_rows { EveryCounted NetRowAt (survey_in (decoded survey.now)) result.rows table.new }
+    ensures condition3 { EveryCounted Condition3At (survey_in (decoded survey.now)) result.rows table.new }
 {
     capi::milechime_table(survey, table)
 }

@@ -3,13 +3,13 @@ ghost use Rattle.std.specs.Prelude.{◌≡◌, [], ◌∷◌, ◌+◌, ◌*◌, 
 ghost use Rattle.laws.specs.Order.{pick};
 ghost use Rattle.measure.specs.Diameter.{smallest, largest};
 ghost use Rattle.measure.specs.Pi.{pi_under};
-ghost use Rattle.measure.specs.Quantity.{diameter};
-ghost use Rattle.refusal.specs.Test.{verdict, refusal_of, Verdict};
+ghost use Rattle.measure.specs.Quantity.{diameter, diameter_units};
+ghost use Rattle.refusal.specs.Test.{verdict, refusal_of};
 ghost use Rattle.tank.specs.Limits.{longest_shell};
 ghost use Rattle.file.specs.Limits.{most_courses};
 ghost use Rattle.dimensions.specs.Dimensions.{allowance, outer_diameter, wall, shell_diameter, head_diameter, diameter_fits};
-ghost use Rattle.dimensions.specs.Tests.{lengths_test, diameter_test, diameter_tests};
-ghost use Rattle.dimensions.specs.Judged.{judged_with, heads_tested};
+ghost use Rattle.dimensions.specs.Tests.{lengths_test, diameter_test, diameter_tests, head_length_test};
+ghost use Rattle.dimensions.specs.Judged.{judged_with};
 ghost use Rattle.dimensions.specs.SumLaws.{SumsSmall};
 
 use crate::sums::Sums;
@@ -17,10 +17,10 @@ use arith::less::less;
 use arith::nearest::nearest_quotient;
 use heads::kind::HeadKind;
 use heads::length::fits_diameter;
-use measure::diameter::{Diameter, Measured};
+use measure::diameter::Diameter;
 use measure::pi::{PI_OVER, PI_UNDER};
 use refusal::limits::is_near;
-use refusal::{Refusal, about_of, next_limited};
+use refusal::{Refusal, about_of, limited, one_test};
 use sentences::{OF_HEAD_DIAMETER, OF_HEAD_LENGTH, OF_LENGTHS, OF_SHELL_DIAMETER};
 
 // How far the course lengths together may lie from L1, for each course.
@@ -29,11 +29,12 @@ const COURSE_ALLOWANCE: u64 = 100;
 // How far a diameter may lie from DH.
 const FARTHEST: u64 = 10_000;
 
-// DH, D1 and D2 of a file; or its refusal.
+// DH, D1 and D2 of a file.
 #[derive(Clone, Copy)]
-pub enum Dimensions {
-    Found(Diameter, Diameter, Diameter),
-    Refused(Refusal),
+pub struct Diameters {
+    pub dh: Diameter,
+    pub d1: Diameter,
+    pub d2: Diameter,
 }
 
 // How far the lengths may lie from L1.
@@ -50,7 +51,7 @@ pub(crate) fn lengths_tested(t: Sums, l1: u32) -> Result<(), Refusal>
     ensures { result ≡ verdict (lengths_test t l1 ∷ []) }
 {
     let most = allowance(t) as u32;
-    next_limited(Ok(()), 6, 0, OF_LENGTHS, 0, l1 - most, t.lengths, l1 + most)
+    limited(6, 0, OF_LENGTHS, 0, l1 - most, t.lengths, l1 + most)
 }
 
 // Of circumferences, in pairs, weighted by lengths.
@@ -91,59 +92,48 @@ pub(crate) fn head_diameter(t: Sums, left: u32, right: u32) -> u64
 
 // The diameter of so many u, where it is within its limits and not far from DH.
 #[tactic(auto, unfolding(crate::specs::Dimensions::diameter_fits))]
-fn fitting(d: u64, dh: u32) -> Measured
-    ensures { result ≡ pick (diameter_fits d dh) (Measured.Within (diameter d)) Measured.Outside }
+fn fitting(d: u64, dh: u32) -> Option<Diameter>
+    ensures { result ≡ pick (diameter_fits d dh) (Some (diameter d)) None }
 {
     if !is_near(d, dh as u64, FARTHEST) {
-        return Measured::Outside;
+        return None;
     }
     Diameter::of(d)
 }
 
 // Refusal 7 of a diameter, which is compared with DH.
-fn unfit(sentence: u32, dh: u32, d: u64) -> Dimensions
+fn unfit(sentence: u32, dh: u32, d: u64) -> Refusal
     requires { d < 2 ^ 63 }
-    ensures { result ≡ Dimensions.Refused (refusal_of (diameter_test sentence dh d)) }
+    ensures { result ≡ refusal_of (diameter_test sentence dh d) }
 {
-    let about = about_of(sentence, dh, d, Diameter::SMALLEST, Diameter::LARGEST);
-    Dimensions::Refused(Refusal {
+    Refusal {
         number: 7,
         place: 0,
-        about,
-    })
+        about: about_of(sentence, dh, d, Diameter::SMALLEST, Diameter::LARGEST),
+    }
 }
 
 // DH, D1 and D2; DH is within its limits.
-pub(crate) fn diameters(d1: u64, d2: u64, dh: u32) -> Dimensions
+pub(crate) fn diameters_of(d1: u64, d2: u64, dh: u32) -> Result<Diameters, Refusal>
     requires { (d1 < 2 ^ 63) × (d2 < 2 ^ 63) × (smallest ≤ dh) × (dh ≤ largest) }
     ensures { result ≡ judged_with (verdict (diameter_tests dh d1 d2)) dh d1 d2 }
 {
-    let Measured::Within(shell) = fitting(d1, dh) else {
-        return unfit(OF_SHELL_DIAMETER, dh, d1);
-    };
-    let Measured::Within(heads) = fitting(d2, dh) else {
-        return unfit(OF_HEAD_DIAMETER, dh, d2);
-    };
-    let Measured::Within(dip_point) = Diameter::of(dh as u64) else {
-        return unfit(OF_HEAD_DIAMETER, dh, d2);
-    };
-    Dimensions::Found(dip_point, shell, heads)
+    let shell = fitting(d1, dh).ok_or(unfit(OF_SHELL_DIAMETER, dh, d1))?;
+    let heads = fitting(d2, dh).ok_or(unfit(OF_HEAD_DIAMETER, dh, d2))?;
+    let dip_point = Diameter::of(dh as u64).unwrap();
+    Ok(Diameters {
+        dh: dip_point,
+        d1: shell,
+        d2: heads,
+    })
 }
 
-// What was found, and then refusal 14, where D2 does not allow the length of one head.
-pub(crate) fn heads_tested(found: Dimensions, kind: HeadKind, l3: u32) -> Dimensions
-    ensures { result ≡ heads_tested kind l3 «found» }
+// Refusal 14: whether D2 allows the length of one head.
+pub(crate) fn heads_tested(found: Diameters, kind: HeadKind, l3: u32) -> Result<(), Refusal>
+    ensures { result ≡ verdict (head_length_test kind (diameter_units found.d2) l3 ∷ []) }
 {
-    let Dimensions::Found(_, _, d2) = found else {
-        return found;
-    };
-    if fits_diameter(kind, d2, l3) {
-        return found;
-    }
+    let d2 = found.d2;
     let d = d2.units();
-    Dimensions::Refused(Refusal {
-        number: 14,
-        place: 0,
-        about: about_of(OF_HEAD_LENGTH, d, l3 as u64, 0, d / 2),
-    })
+    let about = about_of(OF_HEAD_LENGTH, d, l3 as u64, 0, d / 2);
+    one_test(14, 0, fits_diameter(kind, d2, l3), about)
 }

@@ -1,19 +1,19 @@
 // Refusals 6, 7 and 14, and the diameters of a file that none of them is given to.
-ghost use Rattle.std.specs.Prelude.{◌≡◌, ◌^◌, ◌≤◌, ◌<◌, length};
+ghost use Rattle.std.specs.Prelude.{◌≡◌, [], ◌∷◌, ◌^◌, ◌≤◌, ◌<◌, length};
 ghost use Rattle.measure.specs.Diameter.{smallest, largest};
-ghost use Rattle.refusal.specs.Test.{verdict, Verdict};
+ghost use Rattle.measure.specs.Quantity.{diameter_units};
+ghost use Rattle.refusal.specs.Test.{verdict};
 ghost use Rattle.heads.specs.Kind.{kind_of};
 ghost use Rattle.file.specs.Word.{word};
 ghost use Rattle.file.specs.Layout.{header_end, kind_at, dh_at, left_at, right_at, l3_at};
-ghost use Rattle.file.specs.SectionLaws.{Readable};
 ghost use Rattle.readings.specs.FitLaws.{NumbersFit};
 ghost use Rattle.dimensions.specs.Dimensions.{shell_diameter, head_diameter};
 ghost use Rattle.dimensions.specs.SumLaws.{SumsSmall};
-ghost use Rattle.dimensions.specs.Tests.{dimension_tests};
-ghost use Rattle.dimensions.specs.Judged.{diameters_judged, judged_by, heads_tested};
+ghost use Rattle.dimensions.specs.Tests.{head_length_test, dimension_tests};
+ghost use Rattle.dimensions.specs.Judged.{diameters_judged, judged_by};
 
 use crate::dimensions::{
-    Dimensions, diameters, head_diameter, heads_tested, lengths_tested, shell_diameter,
+    Diameters, diameters_of, head_diameter, heads_tested, lengths_tested, shell_diameter,
 };
 use crate::sums::{Sums, file_sums};
 use file::format::Format;
@@ -23,34 +23,33 @@ use heads::kind::HeadKind;
 use refusal::Refusal;
 
 // The diameters of a file with these sums.
-fn diameters_in(s: &[u8], t: Sums) -> Dimensions
+fn diameters_in(s: &[u8], t: Sums) -> Result<Diameters, Refusal>
     requires sums_small { (header_end ≤ length s.now) × SumsSmall t × (1 ≤ t.lengths) × (1 ≤ t.count) }
     requires diameters_small { (smallest ≤ word s.now dh_at) × (word s.now dh_at ≤ largest) × (shell_diameter t < 2 ^ 63) × (head_diameter t (word s.now left_at) (word s.now right_at) < 2 ^ 32) }
     ensures { result ≡ diameters_judged s.now t }
 {
     let d1 = shell_diameter(t);
     let d2 = head_diameter(t, word(s, layout::LEFT), word(s, layout::RIGHT));
-    diameters(d1, d2, word(s, layout::DH))
+    diameters_of(d1, d2, word(s, layout::DH))
 }
 
-// What was found, and then refusal 14 of the file's heads.
-fn heads_in(s: &[u8], found: Dimensions) -> Dimensions
+// Refusal 14 of the file's heads.
+fn heads_in(s: &[u8], found: Diameters) -> Result<(), Refusal>
     requires { header_end ≤ length s.now }
-    ensures { result ≡ heads_tested (kind_of (word s.now kind_at)) (word s.now l3_at) «found» }
+    ensures { result ≡ verdict (head_length_test (kind_of (word s.now kind_at)) (diameter_units found.d2) (word s.now l3_at) ∷ []) }
 {
     let kind = HeadKind::of(word(s, layout::KIND));
     heads_tested(found, kind, word(s, layout::L3))
 }
 
 // A file that passes refusals 1 to 5: refusals 6, 7 and 14.
-pub fn measured(f: Format, s: &[u8]) -> Dimensions
-    requires { Readable f × NumbersFit f s.now }
+pub fn measured(f: Format, s: &[u8]) -> Result<Diameters, Refusal>
+    requires { NumbersFit f s.now }
     ensures { result ≡ judged_by f s.now (verdict (dimension_tests f s.now)) }
 {
     let t = file_sums(f, s);
-    let lengths = lengths_tested(t, word(s, layout::L1));
-    if let Err(r) = lengths {
-        return Dimensions::Refused(r);
-    }
-    heads_in(s, diameters_in(s, t))
+    lengths_tested(t, word(s, layout::L1))?;
+    let found = diameters_in(s, t)?;
+    heads_in(s, found)?;
+    Ok(found)
 }

@@ -44,5 +44,5 @@ pub fn height_for(dh: u32, step: u32, table: &[u32], volume: Volume) -> Result<D
     let sound = SoundTable::tested(dh, step, table)?;
     let w = volume.units();
     limited(13, 0, OF_VOLUME, 0, 0, u64::from(w), sound.last())?;
-    Ok(DipHeight::of(lowest(&sound, w)))
+    Ok(DipHeight::from(lowest(&sound, w)))
 }

@@ -22,5 +22,5 @@ pub fn litres_at(dh: u32, step: u32, table: &[u32], height: DipHeight) -> Result
     let sound = SoundTable::tested(dh, step, table)?;
     let h = height.units();
     limited(12, 0, OF_HEIGHT, 0, 0, u64::from(h), dh)?;
-    Ok(Volume::of(sound.litres(h)))
+    Ok(Volume::from(sound.litres(h)))
 }

@@ -1,8 +1,7 @@
 -- The limits of a diameter (document 01, 'Dimensions'): smallest 500.00 mm and largest 5,000.00 mm. Assumes nothing.
-use Rattle.std.specs.Prelude.{ℕ, ◌&&◌, leb}
+use Rattle.std.specs.Prelude.{ℕ, ◌&&◌, leb, Option, Some, None}
 use Rattle.laws.specs.Order.{pick}
-use Rattle.measure.specs.declared.diameter.Measured.{Measured}
-use Rattle.measure.specs.declared.diameter.Measured.TheVariants.{Within, Outside}
+use Rattle.measure.specs.declared.diameter.Diameter.{Diameter}
 use Rattle.measure.specs.Quantity.{diameter}
 
 abbrev pub smallest : ℕ
@@ -11,5 +10,5 @@ smallest = 50000
 abbrev pub largest : ℕ
 largest = 500000
 
-abbrev pub measured : ℕ → Measured
-measured n = pick (leb smallest n && leb n largest) (Within (diameter n)) Outside
+abbrev pub measured : ℕ → Option Diameter
+measured n = pick (leb smallest n && leb n largest) (Some (diameter n)) None

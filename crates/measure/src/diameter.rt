@@ -6,31 +6,23 @@ ghost use Rattle.measure.specs.Quantity.{diameter, diameter_units};
 #[derive(Clone, Copy)]
 pub struct Diameter(u32);
 
-// What measuring a diameter gives.
-#[derive(Clone, Copy)]
-pub enum Measured {
-    Within(Diameter),
-    Outside,
-}
-
 impl Diameter {
     pub const SMALLEST: u32 = 50_000;
 
     pub const LARGEST: u32 = 500_000;
 
-    // The diameter of so many u, refused outside the limits. The limits are those of the definition.
-    pub fn of(units: u64) -> Measured
+    // The diameter of so many u, none outside the limits. The limits are those of the definition.
+    pub fn of(units: u64) -> Option<Diameter>
         ensures value { result ≡ measured units }
         ensures smallest_value { Diameter.SMALLEST ≡ smallest }
         ensures largest_value { Diameter.LARGEST ≡ largest }
     {
-        if units < Diameter::SMALLEST as u64 {
-            return Measured::Outside;
+        let limits = u64::from(Diameter::SMALLEST)..=u64::from(Diameter::LARGEST);
+        if limits.contains(&units) {
+            Some(Diameter(units as u32))
+        } else {
+            None
         }
-        if (Diameter::LARGEST as u64) < units {
-            return Measured::Outside;
-        }
-        Measured::Within(Diameter(units as u32))
     }
 
     // The smallest diameter: what stands where there is none.

@@ -1,14 +1,13 @@
 -- A survey and its table turned over, in the paper's words. Assumes nothing.
 use Rattle.std.specs.Prelude.{ℕ, ◌+◌, ◌-◌, ◌%◌, ◌≤◌, ◌<◌, ◌≡◌, List, nat_abs, length, get_or, Ok}
 use Rattle.std.proofs.Common.{◌∙◌, ap, subst, arith}
-use Rattle.measure.specs.declared.diameter.Diameter.{Diameter}
 use Rattle.measure.specs.Quantity.{diameter_units}
 use Rattle.schedule.specs.RowsLaws.{height_at_last, heights_mirrored}
-use Rattle.refusal.specs.Test.{verdict}
+use Rattle.refusal.specs.Test.{verdict, verdict_in}
 use Rattle.refusal.specs.TestLaws.{passed_both}
 use Rattle.tank.specs.Tank.{gross_at}
 use Rattle.survey.specs.declared.decode.Survey.{Survey}
-use Rattle.survey.specs.Survey.{decoded}
+use Rattle.survey.specs.Survey.{decoded, survey_in}
 use Rattle.survey.specs.SurveyLaws.{SurveyLimits}
 use Rattle.survey.proofs.SurveyLaws.{decoded_fits}
 use Rattle.rows.specs.Rows.{rows_in, height_of, gross_row}
@@ -24,17 +23,19 @@ use Rattle.mirror.proofs.GrossLaws.{gross_mirrored}
 
 -- E7, third law, of a survey that is accepted, with D1 = D2 = DH and heads of kind 0 or 1: at every dip height H from 0 to DH, a row's or not,
 -- gross at H and gross at DH - H together are the full gross within 3 v. What deadwood takes is not in the gross
-pub survey_mirrored : (s : List ℕ) → (decoded s).verdict ≡ Ok tt → let t = (decoded s).survey.tank in let dh = diameter_units t.dh in
+pub survey_mirrored : (s : List ℕ) → verdict_in (decoded s) ≡ Ok tt → let t = (survey_in (decoded s)).tank in let dh = diameter_units t.dh in
     MirroredTank t → (h : ℕ) → h ≤ dh → Around mirror_tolerance (gross_at t h) (gross_at t (dh - h)) (gross_at t dh)
 survey_mirrored s accepted mirrors h high =
     let limits = decoded_fits s accepted in
-    gross_mirrored (decoded s).survey.tank (omega (arith, limits.tank.dh_low)) mirrors h _ (omega arith)
+    gross_mirrored (survey_in (decoded s)).tank (omega (arith, limits.tank.dh_low)) mirrors h _ (omega arith)
 
 -- .. and of a table that is made of such a survey, without deadwood; `left` is the lent memory as the call leaves it
-module _ (s table : List ℕ) {d1 d2 : Diameter} {rows : ℕ} (answer : made (decoded s) (length table) ≡ Made.Table d1 d2 rows)
-    (mirrors : MirroredSurvey (decoded s).survey) where
+module _ (s table : List ℕ) {answered : Made} (answer : made (decoded s) (length table) ≡ Ok answered) (mirrors : MirroredSurvey (survey_in (decoded s))) where
+  abbrev rows : ℕ
+  rows = answered.rows
+
   abbrev v : Survey
-  v = (decoded s).survey
+  v = survey_in (decoded s)
 
   abbrev dh : ℕ
   dh = diameter_units v.tank.dh
@@ -48,7 +49,7 @@ module _ (s table : List ℕ) {d1 d2 : Diameter} {rows : ℕ} (answer : made (de
   limits : SurveyLimits v
   limits =
       decoded_fits s
-      (passed_both (decoded s).verdict (verdict (table_tests v (length table))) (made_table (decoded s) (length table) answer).0).0
+      (passed_both (verdict_in (decoded s)) (verdict (table_tests v (length table))) (made_table (decoded s) (length table) answer).0).0
 
   some_step : 0 < v.step
   some_step = omega (arith, limits.step_low)

@@ -1,6 +1,6 @@
 // Refusal 5 of the header's numbers.
 ghost use Rattle.std.specs.Prelude.{◌≡◌, [], ◌∷◌, ◌+◌, ◌≤◌, length};
-ghost use Rattle.refusal.specs.Test.{verdict, first_refusal, Verdict};
+ghost use Rattle.refusal.specs.Test.{verdict, first_refusal};
 ghost use Rattle.heads.specs.Kind.{kind_of};
 ghost use Rattle.heads.specs.Length.{shortest_of, longest_of};
 ghost use Rattle.file.specs.Word.{word};

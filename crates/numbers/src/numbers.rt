@@ -1,6 +1,6 @@
 // Refusal 5: every number of the file within its limits as it stands, in the header, then in the sections' records.
 ghost use Rattle.std.specs.Prelude.{◌≡◌, [], ◌∷◌};
-ghost use Rattle.refusal.specs.Test.{verdict, Verdict};
+ghost use Rattle.refusal.specs.Test.{verdict};
 ghost use Rattle.file.specs.Section.{sections};
 ghost use Rattle.file.specs.SectionLaws.{Readable, Inside};
 ghost use Rattle.form.specs.PlacedLaws.{Placed};

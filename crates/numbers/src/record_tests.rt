@@ -1,6 +1,6 @@
 // Refusal 5 of a record's numbers.
 ghost use Rattle.std.specs.Prelude.{◌≡◌, [], ◌∷◌, length, ◌+◌, ◌^◌, ◌≤◌, ◌<◌};
-ghost use Rattle.refusal.specs.Test.{verdict, first_refusal, Verdict};
+ghost use Rattle.refusal.specs.Test.{verdict, first_refusal};
 ghost use Rattle.file.specs.Layout.{header_end, course_end, item_end, seam_end};
 ghost use Rattle.file.specs.Section.{record_long};
 ghost use Rattle.records.specs.RecordLaws.{Whole};

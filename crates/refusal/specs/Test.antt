@@ -37,6 +37,11 @@ refusal_of t = refusal t.number t.place t.about
 abbrev pub Verdict : Type 0
 Verdict = Result (Unit {0}) Refusal
 
+-- whether an answer is a refusal, and which
+abbrev pub verdict_in : {A : Type 0} → Result A Refusal → Verdict
+verdict_in (Ok x) = Ok tt
+verdict_in (Err r) = Err r
+
 -- the first test that fails, if any does
 abbrev pub verdict : List Test → Verdict
 verdict [] = Ok tt

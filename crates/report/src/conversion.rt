@@ -1,4 +1,5 @@
 // An old survey file in today's format, byte for byte; or its refusal.
+ghost use Rattle.refusal.specs.Test.{verdict_in};
 ghost use Rattle.rewrite.specs.Rewritten.{most_bytes};
 ghost use Rattle.convert.specs.Converted.{converted};
 ghost use Rattle.said.specs.Said.{Told, verdict_words};
@@ -10,7 +11,7 @@ use said::file::file_said;
 
 // What is said of a file with a header of 48 bytes. A memory of rewrite's MOST_BYTES and one of said's ERR_SIZE bytes have room for all of it.
 pub fn conversion_said(survey: &[u8], out: &mut [u8], err: &mut [u8]) -> Said
-    ensures { Told most_bytes (conversion_text (converted survey.now)) (verdict_words (converted survey.now).verdict) out.old out.new err.old err.new result }
+    ensures { Told most_bytes (conversion_text (converted survey.now)) (verdict_words (verdict_in (converted survey.now))) out.old out.new err.old err.new result }
 {
     let c = convert_48(survey);
     let verdict = c.verdict;

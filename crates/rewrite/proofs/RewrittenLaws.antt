@@ -7,7 +7,7 @@ use native.Mathlib.Omega.{arith}
 use Rattle.std.proofs.Math.ListN.{length-append}
 use Rattle.std.proofs.lemmas.List.{length-replicate}
 use Rattle.laws.specs.BoolLaws.{true_not_false, by_test}
-use Rattle.refusal.specs.Test.{Test, verdict, within}
+use Rattle.refusal.specs.Test.{Test, verdict, within, verdict_in}
 use Rattle.refusal.specs.TestLaws.{verdict_append, all_passed}
 use Rattle.heads.specs.Kind.{kind_known}
 use Rattle.deadwood.specs.Item.{most_items}
@@ -284,7 +284,7 @@ module _ (s : List ℕ) (fit : Placed format48 s) where
       )
 
 -- a file that is not refused
-module _ (s : List ℕ) (accepted : (decoded_as format48 s).verdict ≡ Ok tt) where
+module _ (s : List ℕ) (accepted : verdict_in (decoded_as format48 s) ≡ Ok tt) where
   e : verdict (file_tests format48 s) ≡ Ok tt
   e = sym (decoded_as_verdict format48 s) ∙ accepted
 

@@ -1,7 +1,7 @@
 // Net rows that are tested and then copied to the front of a lent table, once nothing is left to refuse.
 ghost use Rattle.std.specs.Prelude.{◌≡◌, ◌++◌, ℕ, ◌^◌, ◌≤◌, ◌<◌, length, drop};
 ghost use Rattle.laws.specs.Fill.{rows_of};
-ghost use Rattle.refusal.specs.Test.{verdict, Verdict};
+ghost use Rattle.refusal.specs.Test.{verdict};
 ghost use Rattle.schedule.specs.Rows.{row_count, row_height};
 ghost use Rattle.rows.specs.RowLaws.{net_of, cell_in};
 ghost use Rattle.row_tests.specs.Tests.{row_tests};

@@ -1,5 +1,4 @@
 // A file that is written, byte for byte; or its refusal.
-ghost use Rattle.refusal.specs.Test.{Verdict};
 ghost use Rattle.std.specs.Prelude.{ℕ, ◌≤◌, take};
 ghost use Rattle.lines.specs.Lines.{line_size};
 ghost use Rattle.said.specs.Said.{Told, text_by, verdict_words};

@@ -1,7 +1,7 @@
 -- What a file that refusals 6, 7 and 14 can be given to promises: these are its verdict. Assumes nothing.
 use Rattle.std.specs.Prelude.{ℕ, ◌≡◌, true, List, ◌++◌, Ok}
 use Rattle.std.proofs.Common.{◌∙◌}
-use Rattle.refusal.specs.Test.{verdict}
+use Rattle.refusal.specs.Test.{verdict, verdict_in}
 use Rattle.refusal.specs.TestLaws.{verdict_append, passed_all, passed_append}
 use Rattle.heads.specs.Kind.{kind_known}
 use Rattle.file.specs.declared.format.Format.{Format}
@@ -56,5 +56,5 @@ module _ (f : Format) (s : List ℕ) (pass : FirstFivePass f s) where
       )
 
 -- .. on a file in today's format
-pub decoded_by_dimensions : (s : List ℕ) → FirstFivePass today s → (decoded s).verdict ≡ verdict (dimension_tests today s)
+pub decoded_by_dimensions : (s : List ℕ) → FirstFivePass today s → verdict_in (decoded s) ≡ verdict (dimension_tests today s)
 decoded_by_dimensions s pass = decoded_verdict s ∙ dimensions_decide today s pass

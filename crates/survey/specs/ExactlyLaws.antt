@@ -8,7 +8,7 @@ use borrow.Author.Tests.{leb-false, lt-leb, le-leb, leb-true}
 use Rattle.laws.specs.Exactly.{Exactly}
 use Rattle.laws.specs.Order.{pick}
 use Rattle.laws.specs.BoolLaws.{true_not_false}
-use Rattle.refusal.specs.Test.{Test, refusal_of, verdict}
+use Rattle.refusal.specs.Test.{Test, refusal_of, verdict, verdict_in}
 use Rattle.refusal.specs.TestLaws.{near_difference, refused_not_passed}
 use Rattle.refusal.specs.EachLaws.{first_refused}
 use Rattle.refusal.specs.declared.Refusal.{Refusal}
@@ -45,7 +45,7 @@ module _ (s : List ℕ) (e : FirstFivePass today s) where
   count : (sums_of today s).count ≡ (courses today s).count
   count = (file_sums today s (numbers_pass today s e today_readable)).count
 
-  pub sixth_exactly : Exactly ((decoded s).verdict ≡ Err (refusal_of (lengths_test (sums_of today s) (word s l1_at)))) (100 * (courses today s).count < missed today s)
+  pub sixth_exactly : Exactly ((verdict_in (decoded s)) ≡ Err (refusal_of (lengths_test (sums_of today s) (word s l1_at)))) (100 * (courses today s).count < missed today s)
   unfolding dimension_tests
   sixth_exactly =
       let most = allowance (sums_of today s) in
@@ -81,11 +81,11 @@ module _ (s : List ℕ) (first-five : FirstFivePass today s) (lengths : (lengths
   abbrev caps : Test
   caps = head_length_test (kind_of (word s kind_at)) (d2 today s) (word s l3_at)
 
-  decides : (decoded s).verdict ≡ verdict (caps ∷ [])
+  decides : verdict_in (decoded s) ≡ verdict (caps ∷ [])
   unfolding dimension_tests
   decides = decoded_by_dimensions s first-five ∙ rw (lengths, shell, heads)
 
-  pub fourteenth_exactly : Exactly ((decoded s).verdict ≡ Err (refusal_of caps)) ((word s kind_at ≡ 2) × (d2 today s < 2 * word s l3_at))
+  pub fourteenth_exactly : Exactly ((verdict_in (decoded s)) ≡ Err (refusal_of caps)) ((word s kind_at ≡ 2) × (d2 today s < 2 * word s l3_at))
   fourteenth_exactly =
       let exactly = too_long (word s kind_at) (d2 today s) (word s l3_at) (kind_known_law today s first-five) in
       record {

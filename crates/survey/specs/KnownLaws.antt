@@ -2,7 +2,7 @@
 use Rattle.std.specs.Prelude.{ℕ, ◌+◌, ◌≡◌, refl, List, [], ◌∷◌, ◌++◌, Ok, Err}
 use Rattle.std.proofs.Common.{sym, ◌∙◌, ap}
 use Rattle.refusal.specs.declared.Refusal.{Refusal}
-use Rattle.refusal.specs.Test.{Test, verdict, first_refusal, Verdict}
+use Rattle.refusal.specs.Test.{Test, verdict, first_refusal, Verdict, verdict_in}
 use Rattle.refusal.specs.TestLaws.{verdict_append}
 use Rattle.refusal.specs.FailedLaws.{FirstFailed, first_failed}
 use Rattle.refusal.specs.EachLaws.{Each, each_append, each_item}
@@ -53,22 +53,22 @@ file_known f s =
     (each_append Known (number_tests f s) (dimension_tests f s) (numbers_known f s) (each_known (dimension_tests f s) refl)))
 
 -- the verdict of decoding is that of the tests
-pub decoded_as_verdict : (f : Format) (s : List ℕ) → (decoded_as f s).verdict ≡ verdict (file_tests f s)
+pub decoded_as_verdict : (f : Format) (s : List ℕ) → verdict_in (decoded_as f s) ≡ verdict (file_tests f s)
 decoded_as_verdict f s = go (verdict (file_tests f s)) (survey_of f s)
   where
-    go : (w : Verdict) (v : Survey) → (decoded_by w v).verdict ≡ w
+    go : (w : Verdict) (v : Survey) → verdict_in (decoded_by w v) ≡ w
     go (Ok tt) v = refl
     go (Err r) v = refl
 
-pub decoded_verdict : (s : List ℕ) → (decoded s).verdict ≡ verdict (file_tests today s)
+pub decoded_verdict : (s : List ℕ) → verdict_in (decoded s) ≡ verdict (file_tests today s)
 unfolding decoded
 decoded_verdict s = decoded_as_verdict today s
 
-pub decoded_known : (f : Format) (s : List ℕ) → KnownIn (decoded_as f s).verdict
+pub decoded_known : (f : Format) (s : List ℕ) → KnownIn (verdict_in (decoded_as f s))
 decoded_known f s = rw (decoded_as_verdict f s) (verdict_known (file_tests f s) (file_known f s))
 
 -- a refusal of a file, or of what is tested behind it, is that of the first test that fails, of all tests in their order
-pub refused_by_its_test : (f : Format) (s : List ℕ) (behind : List Test) (r : Refusal) → first_refusal (decoded_as f s).verdict (verdict behind) ≡ Err r
+pub refused_by_its_test : (f : Format) (s : List ℕ) (behind : List Test) (r : Refusal) → first_refusal (verdict_in (decoded_as f s)) (verdict behind) ≡ Err r
     → FirstFailed (file_tests f s ++ behind) r
 refused_by_its_test f s behind r e =
     first_failed (file_tests f s ++ behind) r

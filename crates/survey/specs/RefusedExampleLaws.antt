@@ -6,7 +6,7 @@ use Rattle.laws.specs.Fill.{rows_of}
 use Rattle.laws.specs.Nearest.{nearest}
 use Rattle.laws.specs.Root.{root, root_of}
 use Rattle.refusal.specs.declared.About.{About}
-use Rattle.refusal.specs.Test.{about, refusal, items}
+use Rattle.refusal.specs.Test.{about, refusal, items, verdict_in}
 use Rattle.sentences.specs.Sentences.{of_header, of_courses, of_deadwood, of_seams, of_corrected, of_size, of_large_file, of_deadwood_over_courses, of_seams_over_courses, of_seams_over_deadwood, of_lengths, of_shell_diameter, of_head_diameter, of_head_length}
 use Rattle.heads.specs.Kind.{kind_known, kind_of}
 use Rattle.seams.specs.Rise.{first_term, second_term, tape_rise}
@@ -38,7 +38,7 @@ with (suc w) n (x ∷ xs) = x ∷ with w n xs
 
 -- words that get a refusal, and what that is about
 abbrev Gets : List ℕ → (number place : ℕ) → About → Type 0
-Gets words number place what = (decoded (bytes_of words)).verdict ≡ Err (refusal number place what)
+Gets words number place what = verdict_in (decoded (bytes_of words)) ≡ Err (refusal number place what)
 
 -- .. the example with a word made another
 abbrev Changed : (w n number place : ℕ) → About → Type 0
@@ -115,6 +115,6 @@ unfolding file_tests decoded
 no_bytes = refl
 
 -- .. and any file past the largest
-pub too_large : (s : List ℕ) → 65536 < length s → (decoded s).verdict ≡ Err (refusal 1 0 (about of_large_file 0 0 56 65536))
+pub too_large : (s : List ℕ) → 65536 < length s → verdict_in (decoded s) ≡ Err (refusal 1 0 (about of_large_file 0 0 56 65536))
 unfolding file_tests decoded
 too_large s large = rw (lt-leb (length s) 65536 large)

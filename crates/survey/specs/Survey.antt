@@ -1,8 +1,9 @@
 -- The survey that a file holds, read by its format, and what decoding a file gives: its survey where no test refuses it, else the
 -- refusal. Assumes nothing.
-use Rattle.std.specs.Prelude.{ℕ, List, ◌++◌, take, drop, replicate, Ok, Err}
+use Rattle.std.specs.Prelude.{ℕ, List, ◌++◌, take, drop, replicate, Result, Ok, Err}
 use Rattle.measure.specs.Diameter.{smallest}
 use Rattle.measure.specs.Quantity.{diameter}
+use Rattle.refusal.specs.declared.Refusal.{Refusal}
 use Rattle.refusal.specs.Test.{verdict, Verdict}
 use Rattle.deadwood.specs.declared.item.Deadwood.{Deadwood}
 use Rattle.deadwood.specs.Item.{most_items, no_item}
@@ -16,7 +17,6 @@ use Rattle.file.specs.Format.{today}
 use Rattle.file.specs.Section.{deadwood}
 use Rattle.records.specs.Item.{items_of}
 use Rattle.dimensions.specs.Dimensions.{d1, d2}
-use Rattle.survey.specs.declared.decode.Decoded.{Decoded}
 use Rattle.survey.specs.declared.decode.Survey.{Survey}
 use Rattle.survey.specs.Tests.{file_tests}
 
@@ -57,7 +57,7 @@ survey_of f s = survey_with f s (d1 f s) (d2 f s)
 abbrev pub items_in : Survey → List Deadwood
 items_in v = take v.count v.deadwood
 
--- what stands beside a refusal: a survey of nothing
+-- a survey of nothing
 abbrev pub no_survey : Survey
 no_survey =
     record {
@@ -67,9 +67,18 @@ no_survey =
       count = 0;
     }
 
+-- what decoding a file gives: its survey, or its refusal
+abbrev pub Decoded : Type 0
+Decoded = Result Survey Refusal
+
+-- the survey in it; of a refusal a survey of nothing
+abbrev pub survey_in : Decoded → Survey
+survey_in (Ok v) = v
+survey_in (Err r) = no_survey
+
 abbrev pub decoded_by : Verdict → Survey → Decoded
-decoded_by (Ok tt) v = record { verdict = Ok tt; survey = v }
-decoded_by (Err r) v = record { verdict = Err r; survey = no_survey }
+decoded_by (Ok tt) v = Ok v
+decoded_by (Err r) v = Err r
 
 -- of a file in a format
 abbrev pub decoded_as : Format → List ℕ → Decoded

@@ -1,12 +1,12 @@
 -- What a file that is not refused promises of its survey, as plain facts. Assumes nothing.
+use Rattle.refusal.specs.Test.{verdict_in}
 use Rattle.std.specs.Prelude.{◌≤◌, ◌≡◌, Ok}
 use Rattle.deadwood.specs.Item.{most_items}
 use Rattle.deadwood.specs.ListLaws.{DeadwoodLimits}
 use Rattle.schedule.specs.Rows.{smallest_step, largest_step}
 use Rattle.tank.specs.TankLaws.{TankLimits}
-use Rattle.survey.specs.declared.decode.Decoded.{Decoded}
 use Rattle.survey.specs.declared.decode.Survey.{Survey}
-use Rattle.survey.specs.Survey.{items_in}
+use Rattle.survey.specs.Survey.{items_in, survey_in, Decoded}
 
 -- what a survey that is not refused promises to whoever reads it
 pub record SurveyLimits (v : Survey) : Type 0 where
@@ -17,4 +17,4 @@ pub record SurveyLimits (v : Survey) : Type 0 where
   pub items : DeadwoodLimits (items_in v)
 
 abbrev pub WithinLimits : Decoded → Type 0
-WithinLimits d = d.verdict ≡ Ok tt → SurveyLimits d.survey
+WithinLimits d = verdict_in d ≡ Ok tt → SurveyLimits (survey_in d)

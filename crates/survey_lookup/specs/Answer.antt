@@ -1,11 +1,11 @@
 -- The lookups on a survey file's own table. On a table in hand: its refusal, or the lookup on its rows. From a decoded file: what the file
 -- and its table are refused for comes first, then the lookup on the net rows. Assumes nothing.
-use Rattle.refusal.specs.Test.{Verdict}
+use Rattle.survey.specs.Survey.{survey_in, Decoded}
+use Rattle.refusal.specs.Test.{Verdict, verdict_in}
 use Rattle.std.specs.Prelude.{ℕ, ◌≡◌, List, Ok, Err}
 use Rattle.measure.specs.Quantity.{diameter_units}
 use Rattle.refusal.specs.declared.Refusal.{Refusal}
 use Rattle.schedule.specs.Rows.{most_rows}
-use Rattle.survey.specs.declared.decode.Decoded.{Decoded}
 use Rattle.survey.specs.declared.decode.Survey.{Survey}
 use Rattle.rows.specs.Rows.{table_of}
 use Rattle.table.specs.Answer.{verdict_on}
@@ -19,12 +19,12 @@ answer_by refused look (Ok tt) dh step rows = look dh step rows
 answer_by refused look (Err r) dh step rows = refused r
 
 abbrev pub answer_in : {A : Type 0} → (Refusal → A) → (ℕ → ℕ → List ℕ → A) → Tabled → A
-answer_in refused look t = answer_by refused look t.verdict t.dh t.step (own_rows t)
+answer_in refused look t = answer_by refused look (verdict_in t) t.dh t.step (own_rows t)
 
 -- the table lent has room for the most rows
 abbrev pub answer_from : {A : Type 0} → (Refusal → A) → (ℕ → ℕ → List ℕ → A) → Decoded → A
 answer_from refused look file =
-    answer_by refused look (verdict_on file most_rows) (diameter_units file.survey.tank.dh) file.survey.step (table_of file.survey)
+    answer_by refused look (verdict_on file most_rows) (diameter_units (survey_in file).tank.dh) (survey_in file).step (table_of (survey_in file))
 
 -- litres at a height
 
@@ -63,4 +63,4 @@ ReadOffBothOwn v before after answer = ReadOffBoth (diameter_units v.tank.dh) v.
 
 -- said of an answer on a table in hand: of every file whose table that is, it is the answer from the file, and what that is outright
 abbrev pub AsFromFile : {A : Type 0} → (Decoded → A) → (Survey → A → Type 0) → Tabled → A → Type 0
-AsFromFile from Own t answer = (file : Decoded) → t ≡ tabled file → (answer ≡ from file) × Own file.survey answer
+AsFromFile from Own t answer = (file : Decoded) → t ≡ tabled file → (answer ≡ from file) × Own (survey_in file) answer

@@ -1,5 +1,6 @@
 -- A lookup on a survey's own table is never refused for the table (refusal 11): every height up to DH, every volume up to the last
 -- row and every delivery between such heights is answered; and what is answered, in hand or from the file, said outright. Assumes nothing.
+use Rattle.survey.specs.Survey.{survey_in, Decoded}
 use Rattle.std.specs.Prelude.{ℕ, zero, suc, ◌-◌, ◌≤◌, ◌<◌, ◌≡◌, refl, true, List, leb, ℤ, pos, negsuc, nat_abs, ◌-ℤ◌, length, Ok, Err}
 use Rattle.std.proofs.Common.{sym, ◌∙◌, ap, arith}
 use borrow.Author.Tests.{le-leb, eq-eqb}
@@ -11,10 +12,9 @@ use Rattle.laws.specs.ExactlyLaws.{exactly_when}
 use Rattle.laws.specs.SearchLaws.{every_each}
 use Rattle.measure.specs.Quantity.{diameter_units, dip_height, volume}
 use Rattle.refusal.specs.declared.Refusal.{Refusal}
-use Rattle.refusal.specs.Test.{refusal, verdict, Verdict}
+use Rattle.refusal.specs.Test.{refusal, verdict, Verdict, verdict_in}
 use Rattle.refusal.specs.TestLaws.{passed_both}
 use Rattle.schedule.specs.Rows.{most_rows}
-use Rattle.survey.specs.declared.decode.Decoded.{Decoded}
 use Rattle.survey.specs.declared.decode.Survey.{Survey}
 use Rattle.survey.specs.SurveyLaws.{WithinLimits}
 use Rattle.rows.specs.Rows.{rows_in, net_row, cell_of, table_of}
@@ -40,27 +40,27 @@ cells_keep_up (negsuc m) z a b e = absurd (true_not_false (sym a))
 cells_keep_up (pos m) (negsuc n) a b e = absurd (true_not_false (sym b))
 
 module _ (file : Decoded) (cells : ℕ) (within : WithinLimits file) (made : verdict_on file cells ≡ Ok tt) where
-  rows_made : verdict (table_tests file.survey cells) ≡ Ok tt
-  rows_made = (passed_both file.verdict (verdict (table_tests file.survey cells)) made).1
+  rows_made : verdict (table_tests (survey_in file) cells) ≡ Ok tt
+  rows_made = (passed_both (verdict_in file) (verdict (table_tests (survey_in file) cells)) made).1
 
-  size : length (table_of file.survey) ≡ rows_in file.survey
-  size = length_rows_of (cell_of file.survey) (rows_in file.survey)
+  size : length (table_of (survey_in file)) ≡ rows_in (survey_in file)
+  size = length_rows_of (cell_of (survey_in file)) (rows_in (survey_in file))
 
-  cell : (i : ℕ) → i < rows_in file.survey → row (table_of file.survey) i ≡ cell_of file.survey i
-  cell i l = get_or_rows_of (cell_of file.survey) 0 (rows_in file.survey) i l
+  cell : (i : ℕ) → i < rows_in (survey_in file) → row (table_of (survey_in file)) i ≡ cell_of (survey_in file) i
+  cell i l = get_or_rows_of (cell_of (survey_in file)) 0 (rows_in (survey_in file)) i l
 
-  rows_keep_up : (i : ℕ) → i < rows_in file.survey → keeps_up (table_of file.survey) i ≡ true
+  rows_keep_up : (i : ℕ) → i < rows_in (survey_in file) → keeps_up (table_of (survey_in file)) i ≡ true
   rows_keep_up zero l = refl
   rows_keep_up (suc i) l =
-      let v = file.survey in
+      let v = (survey_in file) in
       rw (cell i (omega arith), cell (suc i) l)
       (cells_keep_up (net_row v i) (net_row v (suc i)) (none_below_zero v cells rows_made i (omega arith)) (none_below_zero v cells rows_made (suc i) l) (none_falls v cells rows_made (suc i) l))
 
-  pub own_table_sound : sound_table (diameter_units file.survey.tank.dh) file.survey.step (table_of file.survey) ≡ true
+  pub own_table_sound : sound_table (diameter_units (survey_in file).tank.dh) (survey_in file).step (table_of (survey_in file)) ≡ true
   unfolding sound_table never_falls
   own_table_sound =
-      let v = file.survey in
-      let limits = within (passed_both file.verdict (verdict (table_tests v cells)) made).0 in
+      let v = (survey_in file) in
+      let limits = within (passed_both (verdict_in file) (verdict (table_tests v cells)) made).0 in
       rw (
         le-leb _ _ limits.tank.dh_low,
         le-leb _ _ limits.tank.dh_high,
@@ -71,30 +71,30 @@ module _ (file : Decoded) (cells : ℕ) (within : WithinLimits file) (made : ver
       )
 
 -- a table that is made answers every height up to DH
-pub every_height_answered : (file : Decoded) (h : ℕ) → WithinLimits file → verdict_on file most_rows ≡ Ok tt → h ≤ diameter_units file.survey.tank.dh
-    → litres_from file h ≡ Ok (volume (litres (diameter_units file.survey.tank.dh) file.survey.step (table_of file.survey) h))
+pub every_height_answered : (file : Decoded) (h : ℕ) → WithinLimits file → verdict_on file most_rows ≡ Ok tt → h ≤ diameter_units (survey_in file).tank.dh
+    → litres_from file h ≡ Ok (volume (litres (diameter_units (survey_in file).tank.dh) (survey_in file).step (table_of (survey_in file)) h))
 unfolding litres_from litres_answer
 every_height_answered file h within made l = rw (made, own_table_sound file most_rows within made, le-leb _ _ l)
 
 -- .. and every volume up to the last row
-pub every_volume_answered : (file : Decoded) (w : ℕ) → WithinLimits file → verdict_on file most_rows ≡ Ok tt → w ≤ row (table_of file.survey) (rows_in file.survey - 1)
-    → height_from file w ≡ Ok (dip_height (height_for (diameter_units file.survey.tank.dh) file.survey.step (table_of file.survey) w))
+pub every_volume_answered : (file : Decoded) (w : ℕ) → WithinLimits file → verdict_on file most_rows ≡ Ok tt → w ≤ row (table_of (survey_in file)) (rows_in (survey_in file) - 1)
+    → height_from file w ≡ Ok (dip_height (height_for (diameter_units (survey_in file).tank.dh) (survey_in file).step (table_of (survey_in file)) w))
 unfolding height_from height_answer
 every_volume_answered file w within made l = rw (made, own_table_sound file most_rows within made, le-leb _ _ l)
 
 -- .. every delivery between heights up to DH
 pub every_delivery_answered : (file : Decoded) (before after : ℕ) → WithinLimits file → verdict_on file most_rows ≡ Ok tt
-    → before ≤ diameter_units file.survey.tank.dh → after ≤ diameter_units file.survey.tank.dh
+    → before ≤ diameter_units (survey_in file).tank.dh → after ≤ diameter_units (survey_in file).tank.dh
     → delivered_from file before after ≡ Ok
-    (pos (litres (diameter_units file.survey.tank.dh) file.survey.step (table_of file.survey) after)
-    -ℤ pos (litres (diameter_units file.survey.tank.dh) file.survey.step (table_of file.survey) before))
+    (pos (litres (diameter_units (survey_in file).tank.dh) (survey_in file).step (table_of (survey_in file)) after)
+    -ℤ pos (litres (diameter_units (survey_in file).tank.dh) (survey_in file).step (table_of (survey_in file)) before))
 unfolding delivered_from
 every_delivery_answered file before after within made l m =
     rw made (delivered_inside _ _ _ before after (own_table_sound file most_rows within made) l m)
 
 -- a volume is too much exactly when it is above the last row
 pub refused_above_last : (file : Decoded) (w : ℕ) → WithinLimits file → verdict_on file most_rows ≡ Ok tt
-    → let last = last_row (diameter_units file.survey.tank.dh) file.survey.step (table_of file.survey) in
+    → let last = last_row (diameter_units (survey_in file).tank.dh) (survey_in file).step (table_of (survey_in file)) in
     Exactly (height_from file w ≡ Err (refusal 13 0 (too_much w last))) (last < w)
 unfolding height_from
 refused_above_last file w within made =
@@ -115,7 +115,7 @@ told refused look Own p q t {r} e = (e, as_from)
     as_from : AsFromFile (answer_from refused look) Own t r
     as_from file is =
         let same = e ∙ ap (answer_in refused look) is ∙ answer_in_file refused look file in
-        (same, rw same (answered (Own file.survey) refused look _ _ _ (p file.survey) (q file.survey) (verdict_on file most_rows)))
+        (same, rw same (answered (Own (survey_in file)) refused look _ _ _ (p (survey_in file)) (q (survey_in file)) (verdict_on file most_rows)))
 
 pub litres_in_told : (t : Tabled) (h : ℕ) {r : LitresAnswer} → r ≡ litres_in t h
     → (r ≡ litres_in t h) × AsFromFile (λ file. litres_from file h) (λ v. ReadOffOwn v h) t r

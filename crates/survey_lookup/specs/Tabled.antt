@@ -1,10 +1,10 @@
 -- A survey file's own table with what a lookup takes beside it: DH, the step and the row count; or the refusal, with all numbers 0.
 -- Assumes nothing.
+use Rattle.survey.specs.Survey.{survey_in, Decoded}
 use Rattle.refusal.specs.Test.{Verdict}
 use Rattle.std.specs.Prelude.{ℕ, List, take, replicate, Ok, Err}
 use Rattle.measure.specs.Quantity.{diameter_units}
 use Rattle.schedule.specs.Rows.{most_rows}
-use Rattle.survey.specs.declared.decode.Decoded.{Decoded}
 use Rattle.survey.specs.declared.decode.Survey.{Survey}
 use Rattle.rows.specs.Rows.{rows_in}
 use Rattle.table.specs.Answer.{verdict_on, table_left}
@@ -19,7 +19,7 @@ tabled_by (Ok tt) v table = record { verdict = Ok tt; dh = diameter_units v.tank
 tabled_by (Err r) v table = record { verdict = Err r; dh = 0; step = 0; rows = 0; table = table }
 
 unfoldable pub tabled : Decoded → Tabled
-tabled file = tabled_by (verdict_on file most_rows) file.survey (table_left file no_rows)
+tabled file = tabled_by (verdict_on file most_rows) (survey_in file) (table_left file no_rows)
 
 -- the rows of a table in hand: as many as it counts, from the front of its memory
 abbrev pub own_rows : Tabled → List ℕ

@@ -6,13 +6,12 @@ use Rattle.std.proofs.lemmas.List.{length-replicate}
 use Rattle.laws.specs.FillLaws.{length_rows_of}
 use Rattle.measure.specs.Quantity.{diameter_units}
 use Rattle.refusal.specs.declared.Refusal.{Refusal}
-use Rattle.refusal.specs.Test.{verdict, Verdict}
+use Rattle.refusal.specs.Test.{verdict, Verdict, verdict_in}
 use Rattle.refusal.specs.TestLaws.{passed_both}
 use Rattle.schedule.specs.Rows.{smallest_step, row_count, most_rows}
 use Rattle.schedule.specs.RowsLaws.{few_rows}
-use Rattle.survey.specs.declared.decode.Decoded.{Decoded}
 use Rattle.survey.specs.declared.decode.Survey.{Survey}
-use Rattle.survey.specs.Survey.{decoded}
+use Rattle.survey.specs.Survey.{decoded, survey_in, Decoded}
 use Rattle.survey.specs.SurveyLaws.{WithinLimits}
 use Rattle.survey.proofs.SurveyLaws.{decoded_fits}
 use Rattle.rows.specs.Rows.{rows_in, cell_of, table_of}
@@ -27,11 +26,11 @@ pub no_rows_room : length no_rows ≡ most_rows
 unfolding no_rows
 no_rows_room = length-replicate {A = ℕ} most_rows 0
 
-pub tabled_verdict : (file : Decoded) → (tabled file).verdict ≡ verdict_on file most_rows
+pub tabled_verdict : (file : Decoded) → verdict_in (tabled file) ≡ verdict_on file most_rows
 unfolding tabled
-tabled_verdict file = go (verdict_on file most_rows) file.survey (table_left file no_rows)
+tabled_verdict file = go (verdict_on file most_rows) (survey_in file) (table_left file no_rows)
   where
-    go : (w : Verdict) (v : Survey) (table : List ℕ) → (tabled_by w v table).verdict ≡ w
+    go : (w : Verdict) (v : Survey) (table : List ℕ) → verdict_in (tabled_by w v table) ≡ w
     go (Ok tt) v table = refl
     go (Err r) v table = refl
 
@@ -42,12 +41,12 @@ pub record Ready (v : Survey) (t : Tabled) : Type 0 where
   pub inside : t.rows ≤ length t.table
   pub front : take t.rows t.table ≡ table_of v
 
-ready : (file : Decoded) → WithinLimits file → (tabled file).verdict ≡ Ok tt → Ready file.survey (tabled file)
+ready : (file : Decoded) → WithinLimits file → verdict_in (tabled file) ≡ Ok tt → Ready (survey_in file) (tabled file)
 unfolding tabled
 ready file within is-passed =
-    let v = file.survey in
+    let v = (survey_in file) in
     let passed = sym (tabled_verdict file) ∙ is-passed in
-    let limits = within (passed_both file.verdict (verdict (table_tests v most_rows)) passed).0 in
+    let limits = within (passed_both (verdict_in file) (verdict (table_tests v most_rows)) passed).0 in
     let few = few_rows (diameter_units v.tank.dh) v.step limits.tank.dh_high limits.step_low in
     let front = front_is_table file no_rows (rw no_rows_room passed) in
     rw passed (record {
@@ -59,8 +58,8 @@ ready file within is-passed =
     })
 
 -- of a file of any bytes
-pub ready_file : (s : List ℕ) {t : Tabled} → t ≡ tabled (decoded s) → t.verdict ≡ Ok tt → Ready (decoded s).survey t
-ready_file s is is-passed = rw is (ready (decoded s) (decoded_fits s) (sym (ap (λ t. t.verdict) is) ∙ is-passed))
+pub ready_file : (s : List ℕ) {t : Tabled} → t ≡ tabled (decoded s) → verdict_in t ≡ Ok tt → Ready (survey_in (decoded s)) t
+ready_file s is is-passed = rw is (ready (decoded s) (decoded_fits s) (sym (ap (λ t. (verdict_in t)) is) ∙ is-passed))
 
 -- any lookup on a file's own table is the answer from the file
 pub answer_in_file : {A : Type 0} (refused : Refusal → A) (look : ℕ → ℕ → List ℕ → A) (file : Decoded)
@@ -69,7 +68,7 @@ unfolding tabled
 answer_in_file {A} refused look file = go (verdict_on file most_rows) refl
   where
     go : (w : Verdict) → verdict_on file most_rows ≡ w
-        → answer_in refused look (tabled_by w file.survey (table_left file no_rows))
-        ≡ answer_by refused look w (diameter_units file.survey.tank.dh) file.survey.step (table_of file.survey)
+        → answer_in refused look (tabled_by w (survey_in file) (table_left file no_rows))
+        ≡ answer_by refused look w (diameter_units (survey_in file).tank.dh) (survey_in file).step (table_of (survey_in file))
     go (Ok tt) e = ap (look _ _) (front_is_table file no_rows (rw no_rows_room e))
     go (Err r) e = refl

@@ -1,7 +1,6 @@
 // A survey file's own table, made once in memory that goes with the answer, and the lookups on it: as many as are asked for.
 #![tactic(auto)]
 
-ghost use Rattle.refusal.specs.Test.{Verdict};
 ghost use Rattle.std.specs.Prelude.{◌≡◌, take};
 ghost use Rattle.measure.specs.Quantity.{dip_units, volume_units};
 ghost use Rattle.survey.specs.Survey.{decoded};

@@ -1,5 +1,4 @@
 // What can be asked of a table, and the line that is said to each figure.
-ghost use Rattle.refusal.specs.Test.{Verdict};
 ghost use Rattle.io.specs.Counts.{IsPrefixLen};
 
 use arguments::{are_figures, figure_at, is_word, write_said};

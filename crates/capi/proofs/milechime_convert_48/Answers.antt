@@ -17,6 +17,5 @@ returns-clause-converted_keeps c =
 
 pub returns-clause-length_le_most_bytes : goal.returns-clause-length_le_most_bytes
 returns-clause-length_le_most_bytes c =
-    let file = converted c.args.survey.now in
-    rw (c.converted_numbers.ensures ∙ ap converted_numbers c.convert_48.ensures.value)
-    (numbers_short file.verdict file.length file.file (converted_short c.args.survey.now))
+    let s = c.args.survey.now in
+    rw (c.converted_numbers.ensures ∙ ap converted_numbers c.convert_48.ensures.value) (numbers_short (converted s) (converted_short s))

@@ -5,10 +5,10 @@ use Rattle.file.specs.declared.section.Section.{Section}
 use Rattle.survey.proofs.decode.items.Goals as goal
 
 pub loop-i-init : goal.loop-i-init
-loop-i-init c = (omega arith, rw c.nothing-list.ensures, filled_none _ _)
+loop-i-init c = (rw c.nothing-list.ensures, filled_none _ _)
 
 pub loop-i-preserved : goal.loop-i-preserved
 loop-i-preserved c =
     let l = c.loop-i in
-    let few = ap (λ (x : Section). x.count) c.deadwood-x.ensures.0 in
-    (omega arith, l.invariant.1, rw (c.item_from.ensures, c.record_at.ensures) (filled_more (omega (arith, few, c.requires.1.few_items, ap length l.invariant.1)) l.invariant.2))
+    let few = ap (λ (x : Section). x.count) c.deadwood-x.ensures in
+    (l.invariant.0, rw (c.item_from.ensures, c.record_at.ensures) (filled_more (omega (arith, few, c.requires.few_items, ap length l.invariant.0)) l.invariant.1))

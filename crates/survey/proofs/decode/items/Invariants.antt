@@ -1,6 +1,6 @@
 -- `survey::decode::items` meets its contract. The loop's invariant: the array holds the items read so far, and behind them items
--- that take nothing. The measure is what is left of them. Assumes nothing.
-use Rattle.std.proofs.Common.{◌≡◌, ◌-◌, ◌≤◌}
+-- that take nothing. Assumes nothing.
+use Rattle.std.proofs.Common.{◌≡◌}
 use Rattle.laws.specs.FillLaws.{Filled}
 use Rattle.file.specs.Section.{record_at}
 use Rattle.records.specs.Item.{item_from}
@@ -8,7 +8,4 @@ use Rattle.survey.specs.Survey.{no_items}
 use Rattle.survey.proofs.decode.items.Given as goal
 
 abbrev pub invariant-loop-i : goal.invariant-loop-i
-invariant-loop-i l = (l.i ≤ l.count) × (l.initial.list ≡ no_items) × Filled l.initial.list (λ k. item_from l.s (record_at l.x k)) l.i l.list
-
-abbrev pub decreases-loop-i : goal.decreases-loop-i
-decreases-loop-i l = l.count - l.i
+invariant-loop-i l = (l.initial.list ≡ no_items) × Filled l.initial.list (λ k. item_from l.s (record_at l.x k)) l.i l.list
