@@ -23,9 +23,8 @@ pub fn words_about(about: About) -> Words
     let mut text = [0u8; 256];
     let mut w = Writer { out: &mut text, at: 0 };
     put_words(&mut w, about);
-    let length = w.at as u32;
     Words {
-        length,
+        length: w.at as u32,
         text,
     }
 }

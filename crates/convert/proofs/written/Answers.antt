@@ -1,5 +1,5 @@
 -- `convert::written` meets its contract: the file that is put stands at the front, and zeros behind it. Assumes nothing.
-use Rattle.std.proofs.Common.{ℕ, ◌≤◌, ap₂, List, length, replicate}
+use Rattle.std.proofs.Common.{ℕ, ◌≤◌, ◌≡◌, ap₂, List, length, replicate, rules}
 use Rattle.std.proofs.lemmas.List.{length-replicate}
 use Rattle.rewrite.specs.Rewritten.{rewritten, most_bytes}
 use Rattle.text.specs.PutLaws.{put_fits}
@@ -9,9 +9,13 @@ use Rattle.convert.proofs.written.Goals as goal
 abbrev converted-to : ℕ → List ℕ → Converted
 converted-to length file = record { length = length; file = file }
 
+-- what the writer leaves is what stands in the file
+left : {n : ℕ} {lent file : List ℕ} {made : Converted} → converted-to n lent ≡ made → file ≡ lent → converted-to n file ≡ made
+left is same = rw same is
+
 pub returns : goal.returns
 returns c =
     let put = c.put_rewritten.ensures in
     let fits : length (rewritten c.args.survey.now) ≤ length {A = ℕ} (replicate most_bytes 0) = rw length-replicate put.s_len_bound in
     let whole = put_fits put.put.put fits in
-    ap₂ converted-to whole.1 whole.0
+    left (ap₂ converted-to whole.1 whole.0) (search rules)
