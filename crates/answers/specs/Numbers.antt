@@ -1,16 +1,17 @@
 -- Each answer as plain numbers: the refusal's number and place, both 0 where nothing is refused, and the figures, all 0 in a
 -- refusal; and a refusal in words. Assumes nothing.
 use Rattle.lookup.specs.Answer.{LitresAnswer, HeightAnswer}
-use Rattle.std.specs.Prelude.{ℕ, List, eqb, length, replicate, Ok, Err}
+use Rattle.std.specs.Prelude.{ℕ, List, eqb, length, replicate, Result, Ok, Err}
 use Rattle.laws.specs.Order.{pick}
 use Rattle.refusal.specs.declared.About.{About}
-use Rattle.refusal.specs.Test.{about, Verdict, verdict_in}
+use Rattle.refusal.specs.declared.Refusal.{Refusal}
+use Rattle.refusal.specs.Test.{about, Verdict}
 use Rattle.measure.specs.Quantity.{diameter_units, dip_units, volume_units}
 use Rattle.schedule.specs.Rows.{most_rows}
 use Rattle.file.specs.Format.{format48}
 use Rattle.survey.specs.Survey.{decoded_as}
 use Rattle.table.specs.declared.make.Made.{Made}
-use Rattle.table.specs.declared.make.Made.TheVariants as made
+use Rattle.table.specs.declared.make.NumberedRefusal.{NumberedRefusal}
 use Rattle.table.specs.Answer.{verdict_on}
 use Rattle.rewrite.specs.Rewritten.{most_bytes}
 use Rattle.convert.specs.declared.Converted.{Converted}
@@ -22,9 +23,9 @@ use Rattle.answers.specs.declared.plain_numbers.HeightNumbers.{HeightNumbers}
 use Rattle.answers.specs.declared.plain_numbers.ConvertedNumbers.{ConvertedNumbers}
 use Rattle.answers.specs.declared.words.Words.{Words}
 
-abbrev pub table_numbers : Made → TableNumbers
-table_numbers (made.Table d1 d2 rows) = record { refusal = 0; place = 0; d1 = diameter_units d1; d2 = diameter_units d2; rows = rows }
-table_numbers (made.Refused number place) = record { refusal = number; place = place; d1 = 0; d2 = 0; rows = 0 }
+abbrev pub table_numbers : Result Made NumberedRefusal → TableNumbers
+table_numbers (Ok made) = record { refusal = 0; place = 0; d1 = diameter_units made.d1; d2 = diameter_units made.d2; rows = made.rows }
+table_numbers (Err r) = record { refusal = r.number; place = r.place; d1 = 0; d2 = 0; rows = 0 }
 
 abbrev pub litres_numbers : LitresAnswer → LitresNumbers
 litres_numbers (Ok v) = record { refusal = 0; place = 0; volume = volume_units v }
@@ -35,12 +36,9 @@ height_numbers (Ok h) = record { refusal = 0; place = 0; height = dip_units h }
 height_numbers (Err r) = record { refusal = r.number; place = r.place; height = 0 }
 
 -- a converted file: how many bytes, and the memory at whose front they stand
-abbrev pub file_numbers : Verdict → ℕ → List ℕ → ConvertedNumbers
-file_numbers (Ok tt) length file = record { refusal = 0; place = 0; length = length; file = file }
-file_numbers (Err r) length file = record { refusal = r.number; place = r.place; length = 0; file = replicate most_bytes 0 }
-
-abbrev pub converted_numbers : Converted → ConvertedNumbers
-converted_numbers c = file_numbers (verdict_in c) c.length c.file
+abbrev pub converted_numbers : Result Converted Refusal → ConvertedNumbers
+converted_numbers (Ok c) = record { refusal = 0; place = 0; length = c.length; file = c.file }
+converted_numbers (Err r) = record { refusal = r.number; place = r.place; length = 0; file = replicate most_bytes 0 }
 
 -- what a test is about in words: how many bytes, and these at the front of a text that is 0 behind them
 abbrev pub words_about : About → Words

@@ -1,14 +1,19 @@
 -- The library's own statements say what the plain numbers promise. Assumes nothing.
-use Rattle.survey.specs.Survey.{survey_in, Decoded}
-use Rattle.refusal.specs.Test.{Verdict}
-use Rattle.std.specs.Prelude.{ℕ, ◌≤◌, ◌<◌, ◌≡◌, true, List, Ok, Err}
+use Rattle.survey.specs.Survey.{decoded_as, decoded, survey_in, Decoded}
+use Rattle.schedule.specs.Rows.{most_rows}
+use Rattle.refusal.specs.declared.Refusal.{Refusal}
+use Rattle.refusal.specs.Test.{Verdict, verdict_in}
+use Rattle.refusal.specs.TestLaws.{refused_not_passed}
+use Rattle.file.specs.Format.{format48}
+use Rattle.std.specs.Prelude.{ℕ, ◌≤◌, ◌<◌, ◌≡◌, true, List, length, Result, IfOk, Ok, Err}
 use Rattle.std.proofs.Math.Path.{refl}
 use Rattle.std.proofs.Common.{arith}
 use Rattle.laws.specs.Exactly.{Exactly}
 use Rattle.survey.specs.declared.decode.Survey.{Survey}
 use Rattle.rewrite.specs.Rewritten.{most_bytes}
-use Rattle.table.specs.Answer.{made, answer_by, verdict_on}
+use Rattle.table.specs.Answer.{made, answer_by, verdict_on, table_left}
 use Rattle.table.specs.Condition3.{EveryRow}
+use Rattle.convert.specs.declared.Converted.{Converted}
 use Rattle.convert.specs.Converted.{converted, Keeps}
 use Rattle.lookup.specs.Table.{sound_table}
 use Rattle.lookup.specs.Litres.{litres}
@@ -17,8 +22,8 @@ use Rattle.lookup.specs.Answer.{litres_by, litres_answer, ReadOff, TooHigh, heig
 use Rattle.lookup.proofs.AnswerLaws.{above_limit, read_off_only, reached_only}
 use Rattle.answers.specs.declared.plain_numbers.LitresNumbers.{LitresNumbers}
 use Rattle.answers.specs.declared.plain_numbers.HeightNumbers.{HeightNumbers}
-use Rattle.answers.specs.Numbers.{table_numbers, litres_numbers, height_numbers, file_numbers, converted_numbers}
-use Rattle.answers.specs.Promises.{EveryCounted, OnTableAnswered, LowestAnswered, ConvertedKeeps}
+use Rattle.answers.specs.Numbers.{table_numbers, litres_numbers, height_numbers, converted_numbers}
+use Rattle.answers.specs.Promises.{EveryCounted, OnTableAnswered, LowestAnswered, file_in, ConvertedKeeps}
 use Rattle.answers.specs.RefusalLaws.{litres_answered, height_answered, convert_answered}
 
 pub counted : (claim : Survey → List ℕ → ℕ → Type 0) (file : Decoded) (cells : ℕ) (table : List ℕ)
@@ -68,13 +73,18 @@ module _ (dh step : ℕ) (table : List ℕ) where
 -- a converted file
 
 pub converted_keeps : (s : List ℕ) → Keeps s (converted s) → ConvertedKeeps s (converted_numbers (converted s))
-converted_keeps s told e =
-    let passed = convert_answered 0 refl s e in
-    rw passed (told passed)
+converted_keeps s told e = by_answer (converted s) (convert_answered 0 refl s e) told
+  where
+    by_answer : (r : Result Converted Refusal) → verdict_in r ≡ Ok tt → Keeps s r
+        → (verdict_on (decoded (file_in (converted_numbers r))) most_rows ≡ Ok tt)
+        × ((table : List ℕ) → (made (decoded (file_in (converted_numbers r))) (length table) ≡ made (decoded_as format48 s) (length table))
+        × (table_left (decoded (file_in (converted_numbers r))) table ≡ table_left (decoded_as format48 s) table))
+    by_answer (Ok c) passed told = told
+    by_answer (Err r) passed told = absurd (refused_not_passed r passed)
 
-pub numbers_short : (w : Verdict) (n : ℕ) (file : List ℕ) → n ≤ most_bytes → (file_numbers w n file).length ≤ most_bytes
-numbers_short (Ok tt) n file short = short
-numbers_short (Err r) n file short = omega arith
+pub numbers_short : (answer : Result Converted Refusal) → IfOk answer (λ c. c.length ≤ most_bytes) → (converted_numbers answer).length ≤ most_bytes
+numbers_short (Ok c) short = short
+numbers_short (Err r) short = omega arith
 
 -- a claim about every row counted is one about each
 pub each_counted : (claim : Survey → List ℕ → ℕ → Type 0) (v : Survey) (rows : ℕ) (table : List ℕ) → EveryCounted claim v rows table

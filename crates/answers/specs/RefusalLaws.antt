@@ -61,10 +61,10 @@ pub never_10 :
     × ((s : List ℕ) → (converted_numbers (converted s)).refusal ≡ 10 → ⊥)
     × ((dh step : ℕ) (rows : List ℕ) (h : ℕ) → (litres_numbers (litres_answer dh step rows h)).refusal ≡ 10 → ⊥)
     × ((dh step : ℕ) (rows : List ℕ) (w : ℕ) → (height_numbers (height_answer dh step rows w)).refusal ≡ 10 → ⊥)
-unfolding made litres_answer height_answer
+unfolding made converted litres_answer height_answer
 never_10 = (
   λ s cells e. omega (arith, rw (table_answered 10 refl s cells e) at e),
-  λ s e. omega (arith, rw (convert_answered 10 refl s e) at e),
+  λ s e. omega (arith, rw (convert_accepted 10 refl s e) at e),
   λ dh step rows h e. omega (arith, rw (litres_answered 10 refl dh step rows h e) at e),
   λ dh step rows w e. omega (arith, rw (height_answered 10 refl dh step rows w e) at e),
 )

@@ -1,13 +1,15 @@
 // An answer as plain numbers, laid out as C lays them out: the refusal's number and place, both 0 where nothing is refused, and
 // the figures, all 0 in a refusal. No refusal has number 0 (specs/RefusalLaws.antt).
-ghost use Rattle.std.specs.Prelude.{◌≡◌, ◌≤◌};
+ghost use Rattle.std.specs.Prelude.{◌≡◌, ◌≤◌, IfOk};
 ghost use Rattle.rewrite.specs.Rewritten.{most_bytes};
 ghost use Rattle.answers.specs.Numbers.{table_numbers, litres_numbers, height_numbers, converted_numbers};
 
 use convert::Converted;
+use measure::dip_height::DipHeight;
+use measure::volume::Volume;
 use refusal::Refusal;
 use rewrite::rewritten::MOST_BYTES;
-use table::make::Made;
+use table::make::{Made, NumberedRefusal};
 
 #[repr(C)]
 #[derive(Clone, Copy)]
@@ -45,20 +47,20 @@ pub struct ConvertedNumbers {
     pub file: [u8; MOST_BYTES],
 }
 
-pub fn table_numbers(answer: Made) -> TableNumbers
+pub fn table_numbers(answer: Result<Made, NumberedRefusal>) -> TableNumbers
     ensures { result ≡ table_numbers answer }
 {
     match answer {
-        Made::Table(d1, d2, rows) => TableNumbers {
+        Ok(made) => TableNumbers {
             refusal: 0,
             place: 0,
-            d1: d1.units(),
-            d2: d2.units(),
-            rows,
+            d1: made.d1.units(),
+            d2: made.d2.units(),
+            rows: made.rows,
         },
-        Made::Refused(number, place) => TableNumbers {
-            refusal: number,
-            place,
+        Err(r) => TableNumbers {
+            refusal: r.number,
+            place: r.place,
             d1: 0,
             d2: 0,
             rows: 0,
@@ -100,18 +102,16 @@ pub fn height_numbers(answer: Result<DipHeight, Refusal>) -> HeightNumbers
     }
 }
 
-pub fn converted_numbers(answer: Converted) -> ConvertedNumbers
-    requires { answer.length ≤ most_bytes }
+pub fn converted_numbers(answer: Result<Converted, Refusal>) -> ConvertedNumbers
+    requires { IfOk answer (λ c. c.length ≤ most_bytes) }
     ensures { result ≡ converted_numbers answer }
 {
-    let verdict = answer.verdict;
-    let file = answer.file;
-    match verdict {
-        Ok(()) => ConvertedNumbers {
+    match answer {
+        Ok(converted) => ConvertedNumbers {
             refusal: 0,
             place: 0,
-            length: answer.length as u32,
-            file,
+            length: converted.length as u32,
+            file: converted.file,
         },
         Err(r) => ConvertedNumbers {
             refusal: r.number,

@@ -37,9 +37,6 @@ pub fn in_words(verdict: Result<(), Refusal>) -> Words
             length: 0,
             text: [0u8; 256],
         },
-        Err(r) => {
-            let about = r.about;
-            words_about(about)
-        }
+        Err(r) => words_about(r.about),
     }
 }

@@ -10,7 +10,6 @@ use Rattle.survey.specs.Survey.{decoded_by, decoded, survey_in}
 use Rattle.survey.proofs.SurveyLaws.{decoded_fits}
 use Rattle.survey.specs.ExampleLaws.{six_rows, six_rows_survey}
 use Rattle.survey.proofs.ExampleLaws.{six_rows_decoded}
-use Rattle.table.specs.declared.make.Made.{Made}
 use Rattle.table.specs.Answer.{made, table_left}
 use Rattle.table.specs.NoDeadwoodLaws.{no_deadwood_answered}
 use Rattle.mirror.specs.Mirrored.{MirroredSurvey, Around}
@@ -23,7 +22,7 @@ pub example_rows : row_count (diameter_units (survey_in (decoded six_rows)).tank
 unfolding row_count
 example_rows = ap (λ file. row_count (diameter_units (survey_in file).tank.dh) (survey_in file).step) six_rows_decoded
 
-pub example_made : (cells : ℕ) → 6 ≤ cells → made (decoded six_rows) cells ≡ Made.Table (diameter 50000) (diameter 50000) 6
+pub example_made : (cells : ℕ) → 6 ≤ cells → made (decoded six_rows) cells ≡ Ok (record { d1 = diameter 50000; d2 = diameter 50000; rows = 6 })
 unfolding row_count
 example_made cells room =
     rw six_rows_decoded

@@ -3,10 +3,10 @@
 #![tactic(auto)]
 
 ghost use Rattle.refusal.specs.Test.{verdict_in};
-ghost use Rattle.std.specs.Prelude.{◌≡◌, List, ℕ};
+ghost use Rattle.std.specs.Prelude.{◌≡◌};
 ghost use Rattle.file.specs.Format.{format48};
 ghost use Rattle.survey.specs.Survey.{decoded_as};
-ghost use Rattle.convert.specs.Converted.{converted_by, converted, Keeps};
+ghost use Rattle.convert.specs.Converted.{written, converted, Keeps};
 
 use refusal::Refusal;
 use rewrite::rewritten::{MOST_BYTES, put_rewritten};
@@ -14,45 +14,27 @@ use schedule::MOST_ROWS;
 use survey::decode::decode_48;
 use table::judge::judged;
 
-// The file is the first `length` bytes, and behind them stands 0; a refusal has none.
+// The file is the first `length` bytes, and behind them stands 0.
 #[derive(Clone, Copy)]
 pub struct Converted {
-    pub verdict: Result<(), Refusal>,
     pub length: usize,
     pub file: [u8; MOST_BYTES],
 }
 
-fn refused(refusal: Refusal) -> Converted
-    ensures { (s : List ℕ) → result ≡ converted_by (Err refusal) s }
-{
-    Converted {
-        verdict: Err(refusal),
-        length: 0,
-        file: [0u8; MOST_BYTES],
-    }
-}
-
 fn written(survey: &[u8]) -> Converted
     requires { verdict_in (decoded_as format48 survey.now) ≡ Ok tt }
-    ensures { result ≡ converted_by (Ok tt) survey.now }
+    ensures { result ≡ written survey.now }
 {
     let mut file = [0u8; MOST_BYTES];
     let length = put_rewritten(&mut file, 0, survey);
-    Converted {
-        verdict: Ok(()),
-        length,
-        file,
-    }
+    Converted { length, file }
 }
 
 // Any bytes. A file that is converted is accepted, and its table, D1 and D2 are those of the old file.
-pub fn convert_48(survey: &[u8]) -> Converted
+pub fn convert_48(survey: &[u8]) -> Result<Converted, Refusal>
     ensures value { result ≡ converted survey.now }
     ensures keeps { Keeps survey.now result }
 {
-    let verdict = judged(decode_48(survey), MOST_ROWS);
-    match verdict {
-        Err(r) => refused(r),
-        Ok(()) => written(survey),
-    }
+    judged(decode_48(survey), MOST_ROWS)?;
+    Ok(written(survey))
 }

@@ -1,9 +1,8 @@
 -- A figure is read back as it was written: `figure_of (hundredths n)` is n. Assumes nothing.
-use Rattle.std.specs.Prelude.{ℕ, suc, ◌+◌, ◌*◌, ◌/◌, ◌%◌, ◌^◌, ◌≤◌, ◌<◌, ◌≡◌, true, List, [], ◌∷◌, ◌++◌, length}
+use Rattle.std.specs.Prelude.{ℕ, suc, ◌+◌, ◌*◌, ◌/◌, ◌%◌, ◌^◌, ◌≤◌, ◌<◌, ◌≡◌, true, List, [], ◌∷◌, ◌++◌, length, Some}
 use Prim.Native.Char.{code}
 use Rattle.std.proofs.Common.{◌∙◌, ap, ap₂, append_assoc, arith, le-leb, lt-ltb, length-append}
 use Rattle.laws.specs.OrderLaws.{by_order, pick_le}
-use Rattle.figures.specs.declared.Figure.TheVariants.{Hundredths}
 use Rattle.text.specs.Ascii.{ascii}
 use Rattle.text.specs.Digits.{digit_of, digits, hundredths}
 use Rattle.text.specs.DigitsLaws.{digits_one, digits_more, by_digits, length_digits}
@@ -45,7 +44,7 @@ digits_read = by_digits Read one more
 some_digit : (n : ℕ) → 0 < length (digits n)
 some_digit n = by_order n 9 (λ l. rw (digits_one n (omega arith)) (omega arith)) (λ l. rw (digits_more n l, length-append) (omega arith))
 
-pub read_back : (n : ℕ) → n < 2 ^ 32 → figure_of (hundredths n) ≡ Hundredths n
+pub read_back : (n : ℕ) → n < 2 ^ 32 → figure_of (hundredths n) ≡ Some n
 unfolding figure_of figure_from hundredths
 read_back n h =
     let m = n / 100 in

@@ -4,6 +4,7 @@ use Rattle.std.specs.Prelude.{ℕ, ◌+◌, ◌*◌, Bool, ◌&&◌, ◌||◌, L
 use Rattle.laws.specs.Order.{pick}
 use Rattle.file.specs.declared.format.Format.{Format}
 use Rattle.file.specs.declared.section.Section.{Section}
+use Rattle.file.specs.declared.section.Section.TheInside.{Inside}
 use Rattle.file.specs.declared.section.Records.{Records}
 use Rattle.file.specs.declared.section.Records.TheVariants.{Courses, Deadwood, Seams}
 use Rattle.file.specs.Word.{word}
@@ -14,6 +15,10 @@ abbrev pub record_long : Records → ℕ
 record_long Courses = course_end
 record_long Deadwood = item_end
 record_long Seams = seam_end
+
+-- what is said of a section: all that its fields have
+abbrev pub place : Inside → Section
+place x = record { records = x.records; count = x.count; offset = x.offset; size = x.size }
 
 -- a section of records of a size, whose count and byte offset stand at a byte of the header
 abbrev pub section_at : Records → (at size : ℕ) → List ℕ → Section

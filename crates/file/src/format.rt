@@ -1,11 +1,14 @@
 // The formats of a survey file: how long its header and its records are. The words of document 01 stand at the same places in all of
 // them, and those that a later request added behind them.
-ghost use Rattle.std.specs.Prelude.{◌≡◌};
-ghost use Rattle.file.specs.Layout.{has_seams};
+ghost use Rattle.std.specs.Prelude.{◌≡◌, ◌≤◌};
+ghost use Rattle.file.specs.Layout.{header_end, has_seams};
+ghost use Rattle.file.specs.Limits.{largest_file};
 ghost use Rattle.file.specs.Format.{format_of, format48, today};
 
 use crate::layout;
+use std::marker::Model;
 
+// Every format can be read.
 #[derive(Clone, Copy)]
 pub struct Format {
     pub header: usize,
@@ -14,9 +17,25 @@ pub struct Format {
     pub seam: usize,
 }
 
+impl Model for Format {
+    ghost use Rattle.file.specs.Lengths.{Lengths};
+
+    ghost Value = { Lengths };
+
+    ghost use Rattle.file.specs.Format.{lengths};
+    ghost use Rattle.file.specs.SectionLaws.{Readable};
+
+    ghost view = { lengths };
+
+    ghost invariant = { λ f. Readable (lengths f) };
+
+    ghost inverse = { λ f. record { header = f.header; course = f.course; deadwood = f.deadwood; seam = f.seam } };
+}
+
 impl Format {
     // A format of this header.
     fn of(header: usize) -> Format
+        requires { (header_end ≤ header) × (header ≤ largest_file) }
         ensures { result ≡ format_of header }
     {
         Format {

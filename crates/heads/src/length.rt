@@ -16,8 +16,7 @@ pub fn shortest_of(kind: HeadKind) -> u32
 {
     match kind {
         HeadKind::Flat => 0,
-        HeadKind::HalfEllipsoid => 1,
-        HeadKind::SphericalCap => 1,
+        HeadKind::HalfEllipsoid | HeadKind::SphericalCap => 1,
     }
 }
 
@@ -26,8 +25,7 @@ pub fn longest_of(kind: HeadKind) -> u32
 {
     match kind {
         HeadKind::Flat => 0,
-        HeadKind::HalfEllipsoid => LONGEST,
-        HeadKind::SphericalCap => LONGEST,
+        HeadKind::HalfEllipsoid | HeadKind::SphericalCap => LONGEST,
     }
 }
 
@@ -36,8 +34,7 @@ pub fn fits_diameter(kind: HeadKind, d: Diameter, l: u32) -> bool
     ensures { result ≡ fits_diameter kind (diameter_units d) l }
 {
     match kind {
-        HeadKind::Flat => true,
-        HeadKind::HalfEllipsoid => true,
+        HeadKind::Flat | HeadKind::HalfEllipsoid => true,
         HeadKind::SphericalCap => 2 * (l as u64) <= d.units() as u64,
     }
 }

@@ -42,6 +42,7 @@ fn spherical_caps(dome: DomeWalk, d: u64, l: u64, h: u64) -> Volume
 }
 
 // Both heads, filled to h, where the walk has come to.
+#[tactic(auto, unfolding(crate::specs::Volume::heads_volume))]
 pub fn heads_volume(at: DomeWalk, kind: HeadKind, d: Diameter, l: u32, h: ShellHeight) -> Volume
     requires limits { (shell_units h ≤ diameter_units d) × (0 < diameter_units d) × (diameter_units d ≤ largest) × HeadLimits kind (diameter_units d) l }
     requires walked { at ≡ heads_walk_at kind (diameter_units d) l (shell_units h) }

@@ -20,8 +20,7 @@ pub fn heads_on_to(from: DomeWalk, kind: HeadKind, d: Diameter, l: u32, h: Shell
     ensures { result ≡ heads_walk_at kind (diameter_units d) l (shell_units h) }
 {
     match kind {
-        HeadKind::Flat => from,
-        HeadKind::HalfEllipsoid => from,
+        HeadKind::Flat | HeadKind::HalfEllipsoid => from,
         HeadKind::SphericalCap => from.on_to(d.units() as u64, l as u64, h.shell_units()),
     }
 }

@@ -31,3 +31,6 @@ pub signed_line_size : (z : ℤ) → mag z < 2 ^ 63 → length (signed_line z) �
 unfolding signed_line
 signed_line_size z h =
     simp length-append (omega (arith, sign_at_most z, hundredths_of_64 (nat_abs z) (omega (arith, nat_abs_at_most z))))
+
+-- how long each line can be, for the functions that put it
+pub ruleset line_sizes = (rows_line_size, row_line_size, refused_line_size, figure_line_size, signed_line_size)

@@ -1,11 +1,11 @@
 // The lines that the programs print, each with its line end, put into lent memory; and how long a line can be.
-#![tactic(auto)]
+#![tactic(auto, using(crate::specs::SizeLaws::line_sizes))]
 
 ghost use Rattle.std.specs.Prelude.{◌≤◌, length};
 ghost use Rattle.lines.specs.Lines.{rows_line, row_line, refused_line, figure_line, sign_of, signed_line, line_size, row_size};
 ghost use Rattle.text.specs.Put.{Put};
 
-use text::put::{put_byte, put_bytes, put_digits, put_hundredths, put_minus, size};
+use text::put::{put_byte, put_bytes, put_digits, put_hundredths, put_minus};
 
 pub fn rows_line(out: &mut [u8], at: usize, n: u32) -> usize
     ensures put { Put at (rows_line n) out.old out.new result }
@@ -50,9 +50,10 @@ fn put_sign(out: &mut [u8], at: usize, z: i64) -> usize
     ensures { Put at (sign_of z) out.old out.new result }
 {
     if 0 < z {
-        return put_byte(out, at, b'+');
+        put_byte(out, at, b'+')
+    } else {
+        put_minus(out, at, z)
     }
-    put_minus(out, at, z)
 }
 
 // A difference, with its sign.
@@ -61,6 +62,6 @@ pub fn signed_line(out: &mut [u8], at: usize, z: i64) -> usize
     ensures short { length (signed_line z) ≤ line_size }
 {
     let sign = put_sign(out, at, z);
-    let figure = put_hundredths(out, sign, size(z));
+    let figure = put_hundredths(out, sign, z.unsigned_abs());
     put_byte(out, figure, b'\n')
 }

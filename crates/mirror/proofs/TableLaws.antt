@@ -1,7 +1,6 @@
 -- A survey and its table turned over, in the paper's words. Assumes nothing.
 use Rattle.std.specs.Prelude.{ℕ, ◌+◌, ◌-◌, ◌%◌, ◌≤◌, ◌<◌, ◌≡◌, List, nat_abs, length, get_or, Ok}
 use Rattle.std.proofs.Common.{◌∙◌, ap, subst, arith}
-use Rattle.measure.specs.declared.diameter.Diameter.{Diameter}
 use Rattle.measure.specs.Quantity.{diameter_units}
 use Rattle.schedule.specs.RowsLaws.{height_at_last, heights_mirrored}
 use Rattle.refusal.specs.Test.{verdict, verdict_in}
@@ -31,8 +30,10 @@ survey_mirrored s accepted mirrors h high =
     gross_mirrored (survey_in (decoded s)).tank (omega (arith, limits.tank.dh_low)) mirrors h _ (omega arith)
 
 -- .. and of a table that is made of such a survey, without deadwood; `left` is the lent memory as the call leaves it
-module _ (s table : List ℕ) {d1 d2 : Diameter} {rows : ℕ} (answer : made (decoded s) (length table) ≡ Made.Table d1 d2 rows)
-    (mirrors : MirroredSurvey (survey_in (decoded s))) where
+module _ (s table : List ℕ) {answered : Made} (answer : made (decoded s) (length table) ≡ Ok answered) (mirrors : MirroredSurvey (survey_in (decoded s))) where
+  abbrev rows : ℕ
+  rows = answered.rows
+
   abbrev v : Survey
   v = survey_in (decoded s)
 

@@ -1,12 +1,12 @@
 // A record of the file and its numbers as they are told; and the test of one number (refusal 5).
 ghost use Rattle.std.specs.Prelude.{◌≡◌, [], ◌∷◌, ◌+◌, ◌^◌, ◌≤◌, ◌<◌, length};
-ghost use Rattle.refusal.specs.Test.{verdict, first_refusal};
+ghost use Rattle.refusal.specs.Test.{verdict};
 ghost use Rattle.file.specs.Section.{record_at};
 ghost use Rattle.records.specs.Record.{first_sentence, record_of, number_test, limit};
 
 use file::section::{Records, Section, record_at};
 use file::word::word;
-use refusal::{Refusal, next_limited};
+use refusal::{Refusal, limited};
 use sentences::{OF_COURSES, OF_DEADWOOD, OF_SEAMS};
 
 // A record of the file, or its header: the byte where it starts, the sentence of its first word, and which one it is as one counts from 1.
@@ -41,34 +41,20 @@ pub fn record_of(x: Section, i: usize) -> Record
     }
 }
 
-// The verdict so far, and then the test of a number that stands at byte k of a record, which is its place.
-pub fn number_tested(
-    so_far: Result<(), Refusal>,
-    x: Record,
-    k: usize,
-    low: u32,
-    number: u64,
-    high: u32,
-) -> Result<(), Refusal>
+// The test of a number that stands at byte k of a record, which is its place.
+pub fn number_tested(x: Record, k: usize, low: u32, number: u64, high: u32) -> Result<(), Refusal>
     requires { (x.at + k < 2 ^ 32) × (x.sentence + k < 2 ^ 32) × (number < 2 ^ 63) }
-    ensures { result ≡ first_refusal so_far (verdict (number_test x k low number high ∷ [])) }
+    ensures { result ≡ verdict (number_test x k low number high ∷ []) }
 {
     let place = (x.at + k) as u32;
     let sentence = x.sentence + (k / 4) as u32;
-    next_limited(so_far, 5, place, sentence, x.item, low, number, high)
+    limited(5, place, sentence, x.item, low, number, high)
 }
 
 // .. as it stands there.
-pub fn limit(
-    so_far: Result<(), Refusal>,
-    s: &[u8],
-    x: Record,
-    k: usize,
-    low: u32,
-    high: u32,
-) -> Result<(), Refusal>
+pub fn limit(s: &[u8], x: Record, k: usize, low: u32, high: u32) -> Result<(), Refusal>
     requires { (x.at + k + 4 ≤ length s.now) × (x.at + k < 2 ^ 32) × (x.sentence + k < 2 ^ 32) }
-    ensures { result ≡ first_refusal so_far (verdict (limit s.now x k low high ∷ [])) }
+    ensures { result ≡ verdict (limit s.now x k low high ∷ []) }
 {
-    number_tested(so_far, x, k, low, word(s, x.at + k) as u64, high)
+    number_tested(x, k, low, word(s, x.at + k) as u64, high)
 }

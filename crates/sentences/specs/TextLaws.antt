@@ -1,5 +1,4 @@
--- Laws of a text of lines: each line is its sentence; and by the places of the text, as the code goes over them, passing lines and filling in a
--- line. Assumes nothing.
+-- Laws of a text of lines: each line is its sentence; and by the places of the text, passing lines and filling in a line. Assumes nothing.
 use Rattle.std.specs.Prelude.{ℕ, zero, suc, ◌+◌, ◌-◌, ◌≤◌, ◌<◌, ◌≡◌, refl, Bool, true, false, ◌&&◌, List, [], ◌∷◌, ◌++◌, eqb, length, get_or, drop}
 use Prim.Native.Char.{code}
 use Prim.Native.String.{String}

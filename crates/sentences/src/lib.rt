@@ -5,12 +5,13 @@ ghost use Rattle.std.specs.Prelude.{◌≤◌, ◌<◌, length};
 ghost use Rattle.text.specs.Put.{Put};
 ghost use Rattle.sentences.specs.Sentences.{words, words_line, words_size};
 
-use crate::blanks::{line_at, put_line};
+use crate::blanks::{line_at, put_filled};
 use refusal::About;
 use text::put::put_byte;
 
 mod blanks;
 
+// Numbers and no enum: a sentence's number is its line in the text, and most are worked out from a place in the file.
 // The header's word at byte k has OF_HEADER + k / 4, that of a course, a deadwood item or a seam item so many behind the first of its record.
 pub const OF_HEADER: u32 = 0;
 
@@ -59,6 +60,7 @@ pub const OF_VOLUME: u32 = 82;
 pub const OF_OLD_HEADER: u32 = 88;
 
 // What a test is about, in words: for whoever calls the library. Sentence n is line n; a number that no sentence has is an empty line.
+#[tactic(auto, using(crate::specs::SizeLaws::words_short))]
 pub fn put_words(out: &mut [u8], at: usize, about: About) -> usize
     ensures put { Put at (words about) out.old out.new result }
     ensures short { length (words about) < words_size }
@@ -114,11 +116,11 @@ pub fn put_words(out: &mut [u8], at: usize, about: About) -> usize
         \n\n\n\n\n\
         old header of $ bytes: must have >\n\
         ";
-    let from = line_at(text, about.sentence as usize);
-    put_line(out, at, about, text, from)
+    put_filled(out, at, about, line_at(text, about.sentence as usize))
 }
 
 // .. as a line for standard error.
+#[tactic(auto, using(crate::specs::SizeLaws::words_line_size))]
 pub fn put_words_line(out: &mut [u8], at: usize, about: About) -> usize
     ensures put { Put at (words_line about) out.old out.new result }
     ensures short { length (words_line about) ≤ words_size }

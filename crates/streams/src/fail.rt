@@ -22,12 +22,9 @@ fn words_end(text: &[u8], written: usize) -> usize
     ensures { IsPrefixLen result text.now }
 {
     let most = written.min(text.len());
-    for at in 0..most {
-        if text[at..].starts_with(BEHIND) {
-            return at;
-        }
-    }
-    most
+    (0..most)
+        .find(|at| text[*at..].starts_with(BEHIND))
+        .unwrap_or(most)
 }
 
 // A line on standard error: a name, and the words.
@@ -35,8 +32,7 @@ pub(crate) fn fail(rt: &HostRuntime, name: &[u8], error: io::Error) {
     let mut text = [0u8; 256];
     let written = put_text(&mut text, error);
     let end = words_end(&text, written);
-    write_whole(rt, &mut rt.stderr(), name);
-    write_whole(rt, &mut rt.stderr(), b": ");
-    write_whole(rt, &mut rt.stderr(), &text[..end]);
-    write_whole(rt, &mut rt.stderr(), b"\n");
+    for part in [name, b": ", &text[..end], b"\n"] {
+        write_whole(rt, &mut rt.stderr(), part);
+    }
 }

@@ -15,11 +15,10 @@ use std::io;
 pub use told::{read_input, read_named, write_output};
 pub use write::write_whole;
 
-// What it came to: how many bytes were moved, and whether that is all there was to move. Where it is not, the last call failed, and
-// `failure` says why; it says nothing of a write that took nothing.
+// What it came to: how many bytes were moved, and whether that is all there was to move, or how the last call failed. A write that took nothing
+// failed too.
 #[derive(Clone, Copy)]
 pub struct Moved {
     pub count: usize,
-    pub whole: bool,
-    pub failure: Option<io::Error>,
+    pub end: io::Result<()>,
 }

@@ -22,22 +22,21 @@ const INVALID_ARGUMENT: i32 = 22;
 
 const NO_TEXT: i32 = 84;
 
-// A read of which nothing came.
-fn nothing(buf: &[u8], failure: io::Error) -> Moved
-    ensures { IsPrefixLen result.count buf.now }
-{
-    Moved {
-        count: 0,
-        whole: false,
-        failure: Some(failure),
+// Tells how it ended, by a name, where that is a failure.
+fn tell_end(rt: &HostRuntime, name: &[u8], end: io::Result<()>) {
+    if let Err(error) = end {
+        fail(rt, name, error);
     }
 }
 
-// A failure that was told of, by a name.
-fn fail_told(rt: &HostRuntime, name: &[u8], moved: Moved) {
-    match moved.failure {
-        Some(error) => fail(rt, name, error),
-        None => fail(rt, name, io::Error::from(io::ErrorKind::WriteZero)),
+// Tells why nothing was read, by a name.
+fn nothing(rt: &HostRuntime, name: &[u8], error: io::Error) -> Moved
+    ensures { result.count ≡ 0 }
+{
+    fail(rt, name, error);
+    Moved {
+        count: 0,
+        end: Err(error),
     }
 }
 
@@ -47,9 +46,7 @@ fn read_told<R: Read>(rt: &HostRuntime, from: &mut R, name: &[u8], buf: &mut [u8
     ensures buf_len_unchanged { length buf.new ≡ length buf.old }
 {
     let got = read_whole(rt, from, buf);
-    if !got.whole {
-        fail_told(rt, name, got);
-    }
+    tell_end(rt, name, got.end);
     got
 }
 
@@ -63,10 +60,8 @@ pub fn read_input(rt: &HostRuntime, buf: &mut [u8]) -> Moved
 
 // The file of a name. A name that is no text in UTF-8 can't be opened.
 fn opened(rt: &HostRuntime, name: &[u8]) -> io::Result<File> {
-    match str::from_utf8(name) {
-        Ok(path) => File::open(rt, path),
-        Err(_) => Err(io::Error::from_raw_os_error(NO_TEXT)),
-    }
+    let path = str::from_utf8(name).map_err(|_| io::Error::from_raw_os_error(NO_TEXT))?;
+    File::open(rt, path)
 }
 
 // All of the file of a name, as far as buf has room for it.
@@ -76,10 +71,7 @@ fn read_file(rt: &HostRuntime, name: &[u8], buf: &mut [u8]) -> Moved
 {
     match opened(rt, name) {
         Ok(mut file) => read_told(rt, &mut file, name, buf),
-        Err(error) => {
-            fail(rt, name, error);
-            nothing(buf, error)
-        }
+        Err(error) => nothing(rt, name, error),
     }
 }
 
@@ -89,13 +81,12 @@ pub fn read_named(rt: &HostRuntime, i: usize, buf: &mut [u8]) -> Moved
     ensures buf_len_unchanged { length buf.new ≡ length buf.old }
 {
     let mut name = [0u8; PATH_MAX];
-    let error = match rt.arg(i, &mut name) {
+    let number = match rt.arg(i, &mut name) {
         Ok(n) => return read_file(rt, &name[..n], buf),
-        Err(FillError::TooLong) => io::Error::from_raw_os_error(NAME_TOO_LONG),
-        Err(FillError::NotPresent) => io::Error::from_raw_os_error(INVALID_ARGUMENT),
+        Err(FillError::TooLong) => NAME_TOO_LONG,
+        Err(FillError::NotPresent) => INVALID_ARGUMENT,
     };
-    fail(rt, b"-f FILE", error);
-    nothing(buf, error)
+    nothing(rt, b"-f FILE", io::Error::from_raw_os_error(number))
 }
 
 // All of a text to standard output.
@@ -103,8 +94,6 @@ pub fn write_output(rt: &HostRuntime, bytes: &[u8]) -> Moved
     ensures { Written (length bytes.now) result }
 {
     let put = write_whole(rt, &mut rt.stdout(), bytes);
-    if !put.whole {
-        fail_told(rt, b"standard output", put);
-    }
+    tell_end(rt, b"standard output", put.end);
     put
 }

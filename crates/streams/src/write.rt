@@ -1,50 +1,29 @@
 // Writing until all is written.
-ghost use Rattle.std.specs.Prelude.{◌≤◌, length};
+ghost use Rattle.std.specs.Prelude.{length};
 ghost use Rattle.streams.specs.Whole.{Written};
 
 use crate::Moved;
-use crate::again::{MOST_PAUSES, may_pass, told};
-use crate::pause::pause;
-use std::io::Write;
+use crate::again::{again, told};
+use std::io;
+use std::io::{ErrorKind, Write};
 use std::time::Clock;
 
-// One write, made again as long as its failure may pass.
-fn write_some<W: Write>(clock: &impl Clock, to: &mut W, bytes: &[u8]) -> Moved
-    ensures { result.count ≤ length bytes.now }
-{
-    let mut pauses = MOST_PAUSES;
-    loop {
-        let put = to.write(bytes);
-        if pauses == 0 {
-            return told(put, bytes);
-        }
-        if !may_pass(&put) {
-            return told(put, bytes);
-        }
-        pause(clock);
-        pauses -= 1;
-    }
-}
-
-// Writes all of bytes, or stops at the first write that fails. A write that takes nothing stops it too, of which `failure` says nothing.
+// Writes all of bytes, or stops at the first write that fails. One that takes nothing failed too.
 pub fn write_whole<W: Write>(clock: &impl Clock, to: &mut W, bytes: &[u8]) -> Moved
     ensures { Written (length bytes.now) result }
 {
-    let mut count: usize = 0;
+    let mut count = 0;
     while count < bytes.len() {
-        let put = write_some(clock, to, &bytes[count..]);
+        let rest = &bytes[count..];
+        let answer = again(clock, &mut [], |_| to.write(rest));
+        let put = told(answer, rest.len());
         if put.count == 0 {
             return Moved {
                 count,
-                whole: false,
-                failure: put.failure,
+                end: put.end.and(Err(io::Error::from(ErrorKind::WriteZero))),
             };
         }
         count += put.count;
     }
-    Moved {
-        count,
-        whole: true,
-        failure: None,
-    }
+    Moved { count, end: Ok(()) }
 }

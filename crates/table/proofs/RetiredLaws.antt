@@ -4,7 +4,6 @@ use Rattle.survey.specs.Survey.{survey_in, Decoded}
 use Rattle.std.specs.Prelude.{ℕ, ◌<◌, ◌≡◌, refl, true, Ok, Err}
 use Rattle.std.proofs.Common.{◌∙◌, ap, arith}
 use Rattle.std.specs.Int.Signed.{non_neg}
-use Rattle.measure.specs.declared.diameter.Diameter.{Diameter}
 use Rattle.refusal.specs.Test.{verdict, items, first_refusal, Verdict, verdict_in}
 use Rattle.refusal.specs.TestLaws.{verdict_append, passed_both, all_passed}
 use Rattle.survey.specs.declared.decode.Survey.{Survey}
@@ -16,8 +15,8 @@ use Rattle.table.specs.Answer.{verdict_on, made}
 use Rattle.table.specs.AnswerLaws.{made_table}
 use Rattle.table.specs.RetiredLaws.{below_zero_test, tests_before}
 
-pub no_row_below_zero : (file : Decoded) (cells : ℕ) {x y : Diameter} {n : ℕ} → made file cells ≡ Made.Table x y n
-    → (i : ℕ) → i < n → non_neg (net_row (survey_in file) i) ≡ true
+pub no_row_below_zero : (file : Decoded) (cells : ℕ) {m : Made} → made file cells ≡ Ok m
+    → (i : ℕ) → i < m.rows → non_neg (net_row (survey_in file) i) ≡ true
 no_row_below_zero file cells e i l =
     let table = made_table file cells e in
     let rows = (passed_both (verdict_in file) (verdict (table_tests (survey_in file) cells)) table.0).1 in

@@ -1,10 +1,9 @@
 -- What the answer of the call that makes a table tells of the file and of the table that it left, and that bytes in no section change
 -- neither. Assumes nothing.
 use Rattle.std.specs.Prelude.{ℕ, ◌≡◌, List, length, take, drop, Ok, Err}
-use Rattle.std.proofs.Math.Path.{refl, sym, ap₂}
+use Rattle.std.proofs.Math.Path.{refl, sym, ap, ap₂}
 use Rattle.std.proofs.Common.{◌∙◌, arith, take_at}
 use Rattle.laws.specs.FillLaws.{length_rows_of}
-use Rattle.measure.specs.declared.diameter.Diameter.{Diameter}
 use Rattle.refusal.specs.Test.{verdict, first_refusal, Verdict, verdict_in}
 use Rattle.refusal.specs.PlainLaws.{plain, plain_first}
 use Rattle.survey.specs.declared.decode.Survey.{Survey}
@@ -17,12 +16,17 @@ use Rattle.row_tests.specs.Left.{left_by}
 use Rattle.table.specs.declared.make.Made.{Made}
 use Rattle.table.specs.Answer.{verdict_on, answer_by, made, table_left}
 
-pub made_table : (file : Decoded) (cells : ℕ) {x y : Diameter} {n : ℕ} → made file cells ≡ Made.Table x y n → (verdict_on file cells ≡ Ok tt) × (n ≡ rows_in (survey_in file))
+pub made_table : (file : Decoded) (cells : ℕ) {m : Made} → made file cells ≡ Ok m → (verdict_on file cells ≡ Ok tt) × (m.rows ≡ rows_in (survey_in file))
 unfolding made
-made_table file cells {x} {y} {n} e = go (verdict_on file cells) e
+made_table file cells {m} e = go (verdict_on file cells) e
   where
-    go : (v : Verdict) → answer_by v (survey_in file) ≡ Made.Table x y n → (v ≡ Ok tt) × (n ≡ rows_in (survey_in file))
-    go (Ok tt) h = (refl, cc)
+    v : Survey
+    v = survey_in file
+
+    go : (w : Verdict) → answer_by w v ≡ Ok m → (w ≡ Ok tt) × (m.rows ≡ rows_in v)
+    go (Ok tt) h =
+        let is : record { d1 = v.tank.d1; d2 = v.tank.d2; rows = rows_in v } ≡ m = cc in
+        (refl, ap (λ x. x.rows) (sym is))
     go (Err q) h = absurd (let z : ◌≡◌ {A = ℕ} 0 1 = cc in omega arith)
 
 -- the front of the table that was left is the survey's rows

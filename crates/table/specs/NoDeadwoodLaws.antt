@@ -14,7 +14,6 @@ use Rattle.rows.specs.Rows.{rows_in, height_of, net_row}
 use Rattle.rows.specs.RowLaws.{net_is_gross}
 use Rattle.row_tests.specs.Tests.{keeps_up, fall_test, table_tests}
 use Rattle.row_tests.specs.RowTestLaws.{room_enough}
-use Rattle.table.specs.declared.make.Made.{Made}
 use Rattle.table.specs.Answer.{made}
 
 module _ (v : Survey) (limits : SurveyLimits v) (no_items : v.count ≡ 0) where
@@ -33,7 +32,7 @@ module _ (v : Survey) (limits : SurveyLimits v) (no_items : v.count ≡ 0) where
 
 pub no_deadwood_answered : (file : Decoded) (cells : ℕ) → WithinLimits file → verdict_in file ≡ Ok tt → (survey_in file).count ≡ 0
     → rows_in (survey_in file) ≤ cells
-    → made file cells ≡ Made.Table (survey_in file).tank.d1 (survey_in file).tank.d2 (rows_in (survey_in file))
+    → made file cells ≡ Ok (record { d1 = (survey_in file).tank.d1; d2 = (survey_in file).tank.d2; rows = rows_in (survey_in file) })
 unfolding made
 no_deadwood_answered file cells within e no_items room =
     rw (e, no_deadwood_passed (survey_in file) (within e) no_items cells room)

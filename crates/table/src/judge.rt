@@ -9,7 +9,7 @@ use refusal::Refusal;
 use row_tests::tests::rows_tested;
 use rows::{net_rows, rows_in};
 use schedule::MOST_ROWS;
-use survey::decode::{Decoded, Survey};
+use survey::decode::Survey;
 
 fn rows_judged(v: Survey, cells: usize) -> Result<(), Refusal>
     requires { SurveyLimits v }
@@ -18,20 +18,13 @@ fn rows_judged(v: Survey, cells: usize) -> Result<(), Refusal>
     let rows = rows_in(v);
     let mut net = [0i64; MOST_ROWS];
     net_rows(v, rows, &mut net);
-    let tank = v.tank;
-    let dip_point = tank.dh;
-    rows_tested(&net, dip_point.units(), v.step, rows, cells)
+    rows_tested(&net, v.tank.dh.units(), v.step, rows, cells)
 }
 
 // Refusals 1 to 9 and 14, for a lent table of so many cells.
-pub fn judged(file: Decoded, cells: usize) -> Result<(), Refusal>
+pub fn judged(file: Result<Survey, Refusal>, cells: usize) -> Result<(), Refusal>
     requires { WithinLimits file }
     ensures { result ≡ verdict_on file cells }
 {
-    let verdict = file.verdict;
-    let v = file.survey;
-    match verdict {
-        Err(r) => Err(r),
-        Ok(()) => rows_judged(v, cells),
-    }
+    rows_judged(file?, cells)
 }

@@ -6,7 +6,7 @@ ghost use Rattle.survey.specs.SurveyLaws.{SurveyLimits, WithinLimits};
 ghost use Rattle.rows.specs.Rows.{rows_in, cell_of};
 ghost use Rattle.row_tests.specs.Tests.{table_tests};
 ghost use Rattle.row_tests.specs.Left.{left_by};
-ghost use Rattle.table.specs.Answer.{verdict_on, answer_by, made, table_left};
+ghost use Rattle.table.specs.Answer.{verdict_on, numbered, made, table_left};
 ghost use Rattle.table.specs.Condition3.{EveryRow, NetRowAt, Condition3At};
 
 use measure::diameter::Diameter;
@@ -14,13 +14,32 @@ use refusal::Refusal;
 use row_tests::copy::test_and_copy;
 use rows::{net_rows, rows_in};
 use schedule::MOST_ROWS;
-use survey::decode::{Decoded, Survey, decode};
+use survey::decode::{Survey, decode};
 
-// The table's D1, D2 and row count; or the refusal's number and place.
+// What a table that is made has beside its rows: D1, D2 and how many rows there are.
 #[derive(Clone, Copy)]
-pub enum Made {
-    Table(Diameter, Diameter, u32),
-    Refused(u32, u32),
+pub struct Made {
+    pub d1: Diameter,
+    pub d2: Diameter,
+    pub rows: u32,
+}
+
+// A refusal's number and place, which is all of it that the answer keeps.
+#[derive(Clone, Copy)]
+pub struct NumberedRefusal {
+    pub number: u32,
+    pub place: u32,
+}
+
+impl From<Refusal> for NumberedRefusal {
+    ghost from_gives = { λ r n. n ≡ numbered r };
+
+    fn from(r: Refusal) -> NumberedRefusal {
+        NumberedRefusal {
+            number: r.number,
+            place: r.place,
+        }
+    }
 }
 
 // The rows of a survey that is not refused into the table: worked out apart, tested, and copied last.
@@ -30,56 +49,40 @@ fn fill(v: Survey, table: &mut [u32]) -> Result<(), Refusal>
     ensures table_after { table.new ≡ left_by result (cell_of v) (rows_in v) table.old }
 {
     let rows = rows_in(v);
-    let tank = v.tank;
-    let dip_point = tank.dh;
     let mut net = [0i64; MOST_ROWS];
     net_rows(v, rows, &mut net);
-    test_and_copy(&net, dip_point.units(), v.step, rows, table)
+    test_and_copy(&net, v.tank.dh.units(), v.step, rows, table)
 }
 
 // The verdict on a decoded file and its rows, with what it is about, and the rows in the table where nothing is refused.
-pub fn filled(file: Decoded, table: &mut [u32]) -> Result<(), Refusal>
+pub fn filled(file: Result<Survey, Refusal>, table: &mut [u32]) -> Result<(), Refusal>
     requires { WithinLimits file }
     ensures value { result ≡ verdict_on file (length table.old) }
     ensures table_after { table.new ≡ table_left file table.old }
 {
-    let verdict = file.verdict;
-    let v = file.survey;
-    match verdict {
-        Err(r) => Err(r),
-        Ok(()) => fill(v, table),
-    }
-}
-
-// The answer for a survey, by the verdict on it.
-fn answer(v: Survey, verdict: Result<(), Refusal>) -> Made
-    requires { verdict ≡ Ok tt → SurveyLimits v }
-    ensures { result ≡ answer_by verdict v }
-{
-    let tank = v.tank;
-    let d1 = tank.d1;
-    let d2 = tank.d2;
-    match verdict {
-        Err(r) => Made::Refused(r.number, r.place),
-        Ok(()) => Made::Table(d1, d2, rows_in(v) as u32),
-    }
+    fill(file?, table)
 }
 
 // From a decoded file and any table: the whole answer, what the table holds afterwards, and of every row that was written that it is
 // the net row, and condition 3.
-pub fn tabulate(file: Decoded, table: &mut [u32]) -> Made
+pub fn tabulate(file: Result<Survey, Refusal>, table: &mut [u32]) -> Result<Made, NumberedRefusal>
     requires { WithinLimits file }
     ensures value { result ≡ made file (length table.old) }
     ensures table_after { table.new ≡ table_left file table.old }
     ensures net_rows { EveryRow NetRowAt (survey_in file) result table.new }
     ensures condition3 { EveryRow Condition3At (survey_in file) result table.new }
 {
-    let v = file.survey;
-    answer(v, filled(file, table))
+    let v = file?;
+    fill(v, table)?;
+    Ok(Made {
+        d1: v.tank.d1,
+        d2: v.tank.d2,
+        rows: rows_in(v) as u32,
+    })
 }
 
 // From any bytes and any table.
-pub fn make_table(survey: &[u8], table: &mut [u32]) -> Made
+pub fn make_table(survey: &[u8], table: &mut [u32]) -> Result<Made, NumberedRefusal>
     ensures value { result ≡ made (decoded survey.now) (length table.old) }
     ensures table_after { table.new ≡ table_left (decoded survey.now) table.old }
     ensures net_rows { EveryRow NetRowAt (survey_in (decoded survey.now)) result table.new }

@@ -18,10 +18,7 @@ fn put_three_digits(out: &mut [u8], at: usize, n: u64) -> usize
 fn put_in_threes(out: &mut [u8], at: usize, commas: u32, n: u64) -> usize
     ensures { Put at (in_threes commas n) out.old out.new result }
 {
-    if commas == 0 {
-        return put_digits(out, at, n);
-    }
-    if n < 1000 {
+    if commas == 0 || n < 1000 {
         return put_digits(out, at, n);
     }
     let thousands = put_in_threes(out, at, commas - 1, n / 1000);

@@ -1,9 +1,10 @@
 // Text put into lent memory at a place, piece by piece, as much of it as there is room for. Each function gives the place behind what it
 // put there.
-ghost use Rattle.std.specs.Prelude.{◌≡◌, [], ◌∷◌, ◌%◌, nat_abs, take};
+ghost use Rattle.std.specs.Prelude.{◌≡◌, [], ◌∷◌, ◌%◌, take};
 ghost use Rattle.text.specs.Digits.{digit_of, digits, two_decimals, hundredths, minus_of};
 ghost use Rattle.text.specs.Put.{Put};
 
+#[tactic(auto, using(crate::specs::PutLaws::put_byte))]
 pub fn put_byte(out: &mut [u8], at: usize, b: u8) -> usize
     ensures { Put at (b ∷ []) out.old out.new result }
 {
@@ -18,22 +19,18 @@ pub fn put_bytes(out: &mut [u8], at: usize, s: &[u8]) -> usize
     ensures { Put at s.now out.old out.new result }
 {
     let mut next = at;
-    let mut i: usize = 0;
-    while i < s.len() {
-        next = put_byte(out, next, s[i]);
-        i += 1;
+    for b in s {
+        next = put_byte(out, next, *b);
     }
     next
 }
 
 // The first n bytes of s; all of it where it has no more.
+#[tactic(auto, using(std::proofs::lemmas::List::take_min))]
 pub fn put_first(out: &mut [u8], at: usize, s: &[u8], n: usize) -> usize
     ensures { Put at (take n s.now) out.old out.new result }
 {
-    if n <= s.len() {
-        return put_bytes(out, at, &s[..n]);
-    }
-    put_bytes(out, at, s)
+    put_bytes(out, at, &s[..n.min(s.len())])
 }
 
 // The last digit of n.
@@ -69,21 +66,8 @@ pub fn put_hundredths(out: &mut [u8], at: usize, n: u64) -> usize
     put_two_decimals(out, whole, n)
 }
 
-// The size of a signed number, the least one too.
-pub fn size(z: i64) -> u64
-    ensures { result ≡ nat_abs z }
-{
-    if z < 0 {
-        return (-1 - z) as u64 + 1;
-    }
-    z as u64
-}
-
 pub fn put_minus(out: &mut [u8], at: usize, z: i64) -> usize
     ensures { Put at (minus_of z) out.old out.new result }
 {
-    if z < 0 {
-        return put_byte(out, at, b'-');
-    }
-    at
+    if z < 0 { put_byte(out, at, b'-') } else { at }
 }

@@ -1,5 +1,4 @@
 -- `capi::milechime_convert_48` meets its contract: what the library says of the file, said of the numbers. Assumes nothing.
-use Rattle.refusal.specs.Test.{verdict_in}
 use Rattle.std.proofs.Common.{◌∙◌, ap}
 use Rattle.convert.specs.Converted.{converted}
 use Rattle.answers.specs.Numbers.{converted_numbers}
@@ -18,6 +17,5 @@ returns-clause-converted_keeps c =
 
 pub returns-clause-length_le_most_bytes : goal.returns-clause-length_le_most_bytes
 returns-clause-length_le_most_bytes c =
-    let file = converted c.args.survey.now in
-    rw (c.converted_numbers.ensures ∙ ap converted_numbers c.convert_48.ensures.value)
-    (numbers_short (verdict_in file) file.length file.file (converted_short c.args.survey.now))
+    let s = c.args.survey.now in
+    rw (c.converted_numbers.ensures ∙ ap converted_numbers c.convert_48.ensures.value) (numbers_short (converted s) (converted_short s))

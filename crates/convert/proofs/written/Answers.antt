@@ -1,5 +1,4 @@
 -- `convert::written` meets its contract: the file that is put stands at the front, and zeros behind it. Assumes nothing.
-use Rattle.std.specs.Prelude.{Ok}
 use Rattle.std.proofs.Common.{ℕ, ◌≤◌, ap₂, List, length, replicate}
 use Rattle.std.proofs.lemmas.List.{length-replicate}
 use Rattle.rewrite.specs.Rewritten.{rewritten, most_bytes}
@@ -8,7 +7,7 @@ use Rattle.convert.specs.declared.Converted.{Converted}
 use Rattle.convert.proofs.written.Goals as goal
 
 abbrev converted-to : ℕ → List ℕ → Converted
-converted-to length file = record { verdict = Ok tt; length = length; file = file }
+converted-to length file = record { length = length; file = file }
 
 pub returns : goal.returns
 returns c =

@@ -1,45 +1,51 @@
 -- `figures::read_figure` meets its contract: a turn reads the digit at its place, and behind the digits it is the decimals' turn. Assumes
 -- nothing.
-use Rattle.std.proofs.Common.{ℕ, ◌-◌, ◌^◌, ◌≤◌, ◌<◌, ◌≡◌, refl, sym, ◌∙◌, ap, true, false, arith, add-one, length, drop, length-drop, take_all}
+use Rattle.std.proofs.Common.{ℕ, ◌-◌, ◌^◌, ◌≤◌, ◌<◌, ◌≡◌, refl, sym, ◌∙◌, ap, true, false, arith, add-one, length, length-drop, get_or, drop, drop_of_length-le, take_all}
+use Rattle.std.proofs.lemmas.Bool.Decides.{nat_tests}
 use Rattle.std.proofs.Math.Nat.{lt_of_lt_of_le, pow-le-pow_right, pow-suc, zero-lt-suc}
-use Rattle.figures.specs.Figures.{most_digits, decimals, ended, figure_of}
-use Rattle.figures.specs.FiguresLaws.{whole_place, place, figure_on, figure_ended, ended_some}
+use Rattle.figures.specs.Figures.{value_of, most_digits, ended, figure_from, figure_of}
+use Rattle.figures.specs.FiguresLaws.{whole_place, place, figure_on, figure_ended}
 use Rattle.figures.proofs.read_figure.Goals as goal
 
 below : {i n : ℕ} → i ≤ most_digits → n < 10 ^ i → n < 10 ^ most_digits
 below l h = lt_of_lt_of_le h (pow-le-pow_right (zero-lt-suc 9) l)
 
-pub loop-whole-init : goal.loop-whole-init
+pub loop-count-init : goal.loop-count-init
 unfolding figure_of
-loop-whole-init c = (omega arith, omega arith, omega arith, refl)
+loop-count-init c = (omega arith, omega arith, refl)
 
-pub loop-whole-preserved : goal.loop-whole-preserved
-loop-whole-preserved c =
+pub with_whole-requires : goal.with_whole-requires
+with_whole-requires c = below c.loop-count.invariant.0 c.loop-count.invariant.1
+
+pub with_whole-requires-2 : goal.with_whole-requires-2
+with_whole-requires-2 c = below c.loop-count.invariant.0 c.loop-count.invariant.1
+
+pub loop-count-preserved : goal.loop-count-preserved
+loop-count-preserved c =
     let s = c.args.s.now in
-    let at = c.loop-whole in
-    let goes : whole_place s at.i ≡ true = sym c.goes_on.ensures ∙ c.loop-whole-test.true in
-    let here = place s at.i goes in (
-      omega (arith, here.inside),
-      omega (arith, here.early),
-      rw (add-one at.i) (omega (arith, pow-suc 10 at.i, here.high)),
-      rw c.value.ensures (at.invariant.3 ∙ figure_on s at.i at.whole goes),
+    let at = c.loop-count in
+    let b = get_or s at.count 0 in
+    let goes : whole_place s at.count ≡ true = grind (arith, nat_tests) in
+    let says : c.in-Some.d ≡ value_of b = grind arith in
+    let high = (place s at.count goes).high in (
+      omega arith,
+      rw (add-one at.count) (omega (arith, pow-suc 10 at.count)),
+      rw says (at.invariant.2 ∙ figure_on s at.count at.whole goes),
     )
 
-pub returns-then-i-eq0 : goal.returns-then-i-eq0
-returns-then-i-eq0 c =
+pub returns-in_default : goal.returns-in_default
+returns-in_default c =
     let s = c.args.s.now in
-    let at = c.loop-whole in
-    let over : whole_place s at.i ≡ false = sym c.goes_on.ensures ∙ c.loop-whole-test.false in
-    sym (at.invariant.3 ∙ figure_ended s at.i at.whole over ∙ ap (λ (n : ℕ). ended n at.whole (drop n s)) c.if-i-eq0.true)
-
-pub with_decimals-requires : goal.with_decimals-requires
-with_decimals-requires c = below c.loop-whole.invariant.1 c.loop-whole.invariant.2
+    let at = c.loop-count in
+    let over : whole_place s at.count ≡ false = grind (arith, nat_tests) in
+    c.with_whole.ensures
+    ∙ ap (ended at.count at.whole) (take_all (length s - at.count) (drop at.count s) (omega (arith, length-drop at.count s)))
+    ∙ sym (at.invariant.2 ∙ figure_ended s at.count at.whole over)
 
 pub returns : goal.returns
+unfolding figure_from
 returns c =
     let s = c.args.s.now in
-    let at = c.loop-whole in
-    let over : whole_place s at.i ≡ false = sym c.goes_on.ensures ∙ c.loop-whole-test.false in
-    c.with_decimals.ensures
-    ∙ ap (decimals at.whole) (take_all (length s - at.i) (drop at.i s) (omega (arith, length-drop at.i s)))
-    ∙ sym (at.invariant.3 ∙ figure_ended s at.i at.whole over ∙ ended_some at.i at.whole (drop at.i s) (omega arith))
+    let at = c.loop-count in
+    let all : at.count ≡ length s = omega arith in
+    c.with_whole-2.ensures ∙ sym (at.invariant.2 ∙ rw (drop_of_length-le s c.loop-count-test.false, all) refl)

@@ -1,12 +1,8 @@
 -- `lines::row_line` meets its contract: its pieces are put one after another. Assumes nothing.
 use Rattle.lines.specs.Lines.{row_line}
 use Rattle.text.specs.PutLaws.{put_both}
-use Rattle.lines.specs.SizeLaws.{row_line_size}
 use Rattle.lines.proofs.row_line.Goals as goal
 
 pub returns-clause-put : goal.returns-clause-put
 unfolding row_line
 returns-clause-put c = put_both (put_both (put_both c.put_hundredths-height.ensures c.put_byte-space.ensures) c.put_hundredths-volume.ensures) c.put_byte.ensures
-
-pub returns-clause-short : goal.returns-clause-short
-returns-clause-short c = row_line_size c.args.h c.args.v c.ranges.h.fits c.ranges.v.fits

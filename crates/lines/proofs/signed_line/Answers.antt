@@ -2,14 +2,10 @@
 use Rattle.std.proofs.Common.{to_z-of_z}
 use Rattle.lines.specs.Lines.{signed_line}
 use Rattle.text.specs.PutLaws.{put_both}
-use Rattle.lines.specs.SizeLaws.{signed_line_size}
 use Rattle.lines.proofs.signed_line.Goals as goal
 
 pub returns-clause-put : goal.returns-clause-put
 unfolding signed_line
 returns-clause-put c =
     let plain = to_z-of_z c.ranges.z in
-    put_both (put_both (rw plain at c.put_sign-sign.ensures) (rw (c.size.ensures, plain) at c.put_hundredths-figure.ensures)) c.put_byte.ensures
-
-pub returns-clause-short : goal.returns-clause-short
-returns-clause-short c = signed_line_size c.args.z c.ranges.z.sfits
+    put_both (put_both (rw plain at c.put_sign-sign.ensures) (rw (c.unsigned_abs.ensures.value, plain) at c.put_hundredths-figure.ensures)) c.put_byte.ensures

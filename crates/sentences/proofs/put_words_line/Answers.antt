@@ -1,12 +1,8 @@
 -- `sentences::put_words_line` meets its contract: the words and the line end. Assumes nothing.
 use Rattle.text.specs.PutLaws.{put_both}
 use Rattle.sentences.specs.Sentences.{words_line}
-use Rattle.sentences.specs.SizeLaws.{words_line_size}
 use Rattle.sentences.proofs.put_words_line.Goals as goal
 
 pub returns-clause-put : goal.returns-clause-put
 unfolding words_line
 returns-clause-put c = put_both c.put_words-said.ensures.put c.put_byte.ensures
-
-pub returns-clause-short : goal.returns-clause-short
-returns-clause-short c = words_line_size c.args.about c.put_words-said.ensures.short

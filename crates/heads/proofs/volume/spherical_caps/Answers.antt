@@ -4,7 +4,7 @@ use Rattle.laws.specs.Nearest.{nearest}
 use Rattle.laws.proofs.NearestLaws.{nearest_cancel}
 use Rattle.measure.specs.Quantity.{cubic_per_v, volume}
 use Rattle.domes.specs.Dome.{dome_fitting, dome_covering}
-use Rattle.dome_walk.specs.declared.face.Totals.{Totals}
+use Rattle.dome_walk.specs.declared.bounds.Bounds.{Bounds}
 use Rattle.dome_walk.specs.Walk.{filled_at}
 use Rattle.heads.specs.declared.kind.HeadKind.TheVariants.{SphericalCap}
 use Rattle.heads.specs.Volume.{heads_volume}
@@ -13,11 +13,11 @@ use Rattle.heads.proofs.VolumeLaws.{dome_small, heads_at_most}
 use Rattle.heads.proofs.volume.spherical_caps.Goals as goal
 
 -- what the dome answers: the two totals of one dome
-both : (d l h : ℕ) (t : Totals) → t ≡ filled_at d l h → t.fitting + t.covering ≡ dome_fitting d l h + dome_covering d l h
+both : (d l h : ℕ) (t : Bounds) → t ≡ filled_at d l h → t.fitting + t.covering ≡ dome_fitting d l h + dome_covering d l h
 both d l h t e = ap₂ ◌+◌ (ap (λ w. w.fitting) e) (ap (λ w. w.covering) e)
 
 -- halfway between twice each is as much as both
-halfway : (d l h : ℕ) (t : Totals) → t ≡ filled_at d l h → nearest (t.fitting + t.covering) cubic_per_v ≡ heads_volume SphericalCap d l h
+halfway : (d l h : ℕ) (t : Bounds) → t ≡ filled_at d l h → nearest (t.fitting + t.covering) cubic_per_v ≡ heads_volume SphericalCap d l h
 unfolding heads_volume
 halfway d l h t e =
     let f = dome_fitting d l h in

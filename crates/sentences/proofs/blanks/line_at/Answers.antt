@@ -1,17 +1,22 @@
--- `sentences::blanks::line_at` meets its contract: no line is left, a byte is passed, or the text is over. Assumes nothing.
-use Rattle.std.proofs.Common.{arith, sym, ◌∙◌}
-use Rattle.sentences.specs.TextLaws.{behind_none, behind_ended, behind_byte}
+-- `sentences::blanks::line_at` meets its contract: the library's n-th part is the line. Assumes nothing.
+use Rattle.std.specs.Prelude.{ℕ, ◌≡◌, refl, List, slice_get}
+use Rattle.std.specs.declared.option.Option.{Option}
+use Rattle.std.specs.declared.option.Option.TheVariants.{None, Some}
+use Rattle.std.specs.Option.{option_map, unwrap_or}
+use Rattle.std.specs.List.{slice_split}
+use Rattle.std.proofs.Common.{rules, tests, Bor}
+use Rattle.std.proofs.lemmas.Iterator.Consumers.{nth_from_yields_List}
+use Rattle.std.proofs.lemmas.Iterator.Splits.{YieldsList-from_slice_split}
+use Rattle.sentences.proofs.Lines.{is_end, part_is_line}
 use Rattle.sentences.proofs.blanks.line_at.Goals as goal
 
-pub returns-then-lines-eq0 : goal.returns-then-lines-eq0
-returns-then-lines-eq0 c = sym (behind_none c.loop-i.lines _ c.if-lines-eq0.true) ∙ c.loop-i.invariant.1
-
-pub loop-i-preserved : goal.loop-i-preserved
-loop-i-preserved c =
-    let l = c.loop-i in
-    (omega arith, rw c.lines_left-lines.ensures (sym (behind_byte l.lines c.args.text.now l.i (omega arith) (omega arith)) ∙ l.invariant.1))
+read : (o : Option (Bor (List ℕ))) (none : Bor (List ℕ)) → (unwrap_or o none).now ≡ unwrap_or (option_map (λ x. x.now) o) none.now
+read None none = refl
+read (Some x) none = refl
 
 pub returns : goal.returns
 returns c =
-    let l = c.loop-i in
-    sym (behind_ended l.lines c.args.text.now l.i (omega arith)) ∙ l.invariant.1
+    let part : option_map (λ x. x.now) c.nth.result ≡ slice_get (slice_split is_end c.args.text.now) c.args.n =
+    nth_from_yields_List c.nth.result _ c.args.n c.nth.ensures.ran
+    (YieldsList-from_slice_split _ is_end c.args.text.now c.split.ensures.rest c.split.ensures.done c.split.ensures.closure (λ x b q k. search (rules, tests))) in
+    rw (c.unwrap_or.ensures, ← part_is_line c.args.n c.args.text.now, ← part) (read c.nth.result _)

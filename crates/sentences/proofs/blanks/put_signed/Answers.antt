@@ -6,9 +6,9 @@ use Rattle.sentences.proofs.blanks.put_signed.Goals as goal
 pub returns-then-as_hundredths : goal.returns-then-as_hundredths
 returns-then-as_hundredths c =
     let plain = to_z-of_z c.ranges.z in
-    rw c.if-as_hundredths.true (put_both (rw plain at c.put_minus-signed.ensures) (rw (c.size.ensures, plain) at c.put_grouped.ensures))
+    rw c.if-as_hundredths.true (put_both (rw plain at c.put_minus-signed.ensures) (rw (c.unsigned_abs-size.ensures.value, plain) at c.put_grouped.ensures))
 
-pub returns : goal.returns
-returns c =
+pub returns-else-as_hundredths : goal.returns-else-as_hundredths
+returns-else-as_hundredths c =
     let plain = to_z-of_z c.ranges.z in
-    rw c.if-as_hundredths.false (put_both (rw plain at c.put_minus-signed.ensures) (rw (c.size-2.ensures, plain) at c.put_digits.ensures))
+    rw c.if-as_hundredths.false (put_both (rw plain at c.put_minus-signed.ensures) (rw (c.unsigned_abs-size.ensures.value, plain) at c.put_digits.ensures))

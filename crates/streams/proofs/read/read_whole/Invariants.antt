@@ -1,9 +1,9 @@
--- What `streams::read::read_whole` keeps: what was read lies inside buf, whose length stays. Assumes nothing.
-use Rattle.std.proofs.Common.{length, ◌-◌, ◌≡◌, ◌≤◌}
+-- What `streams::read::read_whole` keeps: what was read lies inside buf. Assumes nothing.
+use Rattle.std.proofs.Common.{length, ◌-◌, ◌≤◌}
 use Rattle.streams.proofs.read.read_whole.Given as goal
 
 abbrev pub invariant-loop-count : goal.invariant-loop-count
-invariant-loop-count g l = (l.count ≤ length l.buf) × (length l.buf ≡ length l.initial.buf)
+invariant-loop-count g l = l.count ≤ length l.buf
 
 abbrev pub decreases-loop-count : goal.decreases-loop-count
 decreases-loop-count g l = length l.initial.buf - l.count

@@ -3,9 +3,9 @@ use Rattle.std.proofs.Common.{arith, ◌<◌, add-one, length, take-suc}
 use Rattle.text.specs.PutLaws.{put_both}
 use Rattle.text.proofs.put.put_bytes.Goals as goal
 
-pub loop-i-preserved : goal.loop-i-preserved
-loop-i-preserved c =
+pub loop-b-preserved : goal.loop-b-preserved
+loop-b-preserved c =
     let s = c.args.s.now in
-    let i = c.loop-i.i in
+    let i = c.loop-b.b-index in
     let read : i < length s = omega arith in
-    (omega arith, rw (add-one i, take-suc s i 0 read) (put_both c.loop-i.invariant.1 c.put_byte-next.ensures))
+    rw (add-one i, take-suc s i 0 read) (put_both c.loop-b.invariant c.put_byte-next.ensures)

@@ -1,11 +1,7 @@
--- `text::put::put_bytes` meets its contract. The loop's invariant: the bytes passed are put. The measure is what is left of the bytes.
--- Assumes nothing.
-use Rattle.std.proofs.Common.{◌-◌, ◌≤◌, length, take}
+-- `text::put::put_bytes` meets its contract. The loop's invariant: the bytes passed are put. Assumes nothing.
+use Rattle.std.proofs.Common.{take}
 use Rattle.text.specs.Put.{Put}
 use Rattle.text.proofs.put.put_bytes.Given as goal
 
-abbrev pub invariant-loop-i : goal.invariant-loop-i
-invariant-loop-i l = (l.i ≤ length l.s) × Put l.at (take l.i l.s) l.initial.out l.out l.next
-
-abbrev pub decreases-loop-i : goal.decreases-loop-i
-decreases-loop-i l = length l.s - l.i
+abbrev pub invariant-loop-b : goal.invariant-loop-b
+invariant-loop-b l = Put l.at (take l.b-index l.s) l.initial.out l.out l.next
