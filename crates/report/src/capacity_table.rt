@@ -13,11 +13,15 @@ use survey_lookup::table_of;
 pub fn table_said(survey: &[u8], out: &mut [u8], err: &mut [u8]) -> Said
     ensures { Told out_size (table_text (tabled (decoded survey.now))) (verdict_words (verdict_in (tabled (decoded survey.now)))) out.old out.new err.old err.new result }
 {
-    let table = table_of(survey);
-    let rows = table.as_ref().map(|t| Rows {
-        dh: t.dh,
-        step: t.step,
-        cells: t.own_rows(),
-    });
-    rows_said(rows.map_err(|r| *r), out, err)
+    match table_of(survey) {
+        Ok(t) => {
+            let rows = Rows {
+                dh: t.dh,
+                step: t.step,
+                cells: t.own_rows(),
+            };
+            rows_said(Ok(rows), out, err)
+        }
+        Err(r) => rows_said(Err(r), out, err),
+    }
 }

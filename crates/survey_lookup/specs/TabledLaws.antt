@@ -64,8 +64,8 @@ ready file {t} within is =
     })
 
 -- of a file of any bytes
-pub ready_file : (s : List ℕ) {r : Result Tabled Refusal} {t : Tabled} → r ≡ tabled (decoded s) → r ≡ Ok t → Ready (survey_in (decoded s)) t
-ready_file s is made = ready (decoded s) (decoded_fits s) (sym is ∙ made)
+pub ready_file : (s : List ℕ) {t : Tabled} → Ok t ≡ tabled (decoded s) → Ready (survey_in (decoded s)) t
+ready_file s is = ready (decoded s) (decoded_fits s) (sym is)
 
 -- any lookup on a file's own table is the answer from the file
 pub answer_in_file : {A : Type 0} (refused : Refusal → A) (look : ℕ → ℕ → List ℕ → A) (file : Decoded)
