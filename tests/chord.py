@@ -57,10 +57,10 @@ def sources():
 def samples_in_sources():
     """Each operator is found where it is run, and passed over where it is not."""
     whole = (ROOT / "crates" / WALK).read_text()
-    last = "        y = y + 1;\n"
+    last = "            chords += at.odd - 1;\n"
     same("places for a sample", True, last in whole)
     for sample in ["c = c * c;", "c = y / c;", "c = y % c;", "c *= y;", "c /= y;", "c %= y;"]:
-        broken = code_of(whole.replace(last, f"{last}        {sample}\n", 1))
+        broken = code_of(whole.replace(last, f"{last}            {sample}\n", 1))
         same(f"found in the sample {sample!r}", [sample], operators(broken))
     for sample in ["// c * c / y % d", "    requires { c * c / y % 2 ≡ 0 }", "    ensures { (result * 2) ≡ c }"]:
         same(f"found in {sample!r}", [], operators(code_of(f"{sample}\n{whole}")))
@@ -108,7 +108,7 @@ def proved_code():
     print(f"functions read: {' '.join(names)}")
     others = set().union(*(steps(body)[0] for name, body in functions.items() if name not in names))
     same("found in the other functions", {"Mul", "Div", "Rem"}, others & {"Mul", "Div", "Rem"})
-    same("calls followed", True, "circle::chord::risen" in names and "circle::chord::fallen" in names)
+    same("calls followed", True, "circle::chord::Kept::risen" in names and "circle::chord::Kept::fallen" in names)
 
 
 def instructions():

@@ -21,10 +21,11 @@ near() {
     done
 }
 
-# crates that can make a dip height of a number: by a call of its type, or by a crate that they list. `measure`, which has the type, makes none.
+# crates that can make a dip height of a number: by a call of its type, by a conversion that names no type, or by a crate that they list.
+# `measure`, which has the type and its conversion, makes none.
 makers() {
     local crate found before=none
-    found=" $(grep -rlE '\bDipHeight[ >]*::' crates | cut -d/ -f2 | sort -u | paste -sd' ') "
+    found=" $(grep -rlE '\bDipHeight[ >]*::|\b(into|Into)\b|\bFrom(::|<u32>)|\bResult<.*\bDipHeight>' crates --exclude-dir=measure | cut -d/ -f2 | sort -u | paste -sd' ') "
     while [ "$found" != "$before" ]; do
         before=$found
         for crate in $(crates); do
@@ -57,7 +58,7 @@ findings() {
     grep -rlE '(\.|::)shell_units\b' crates | grep -vE '^crates/(circle|heads)/' | sed "s/^/rule 2: a shell height's number asked for in /"
     grep -rlE '(\.|::)shell_units\b' crates | xargs -r grep -lwE 'DipHeight|dip_height' | sed "s/^/rule 2: it is asked for and a dip height named in /"
     others | sed 's/^/rule 3: /'
-    grep -rnE '[A-Za-z0-9_)]\.level\b' crates | grep -vE ':[0-9]+: *(requires|ensures) ' | grep -vE '^crates/circle/src/walk\.rt:[0-9]+: *(let mut y = from\.level;|if middle <= from\.level \{)$' | sed "s/^/rule 3: a walk's level read in /"
+    grep -rnE '[A-Za-z0-9_)]\.level\b' crates | grep -vE ':[0-9]+: *(requires|ensures) ' | grep -vE '^crates/circle/src/walk\.rt:[0-9]+: *(let y = self\.level;|\} else if middle <= self\.level \{)$' | sed "s/^/rule 3: a walk's level read in /"
     grep -rnE '\b(DipHeight|ShellHeight|dip_height|shell_height) +as\b|\b(type|pub use)\b.*\b(DipHeight|ShellHeight|dip_height|shell_height)\b' crates | sed 's/^/rule 4: /'
 }
 
@@ -86,7 +87,11 @@ broken() {
 # Adds a line to a file.
 add() { echo "$2" >>"$1"; }
 
-broken "rule 1" add crates/tank/src/filling.rt 'fn back(n: u32) -> DipHeight { DipHeight::of(n) }'
+broken "rule 1" add crates/tank/src/filling.rt 'fn back(n: u32) -> DipHeight { DipHeight::from(n) }'
+broken "rule 1" add crates/tank/src/filling.rt 'fn back(n: u32) -> DipHeight { n.into() }'
+broken "rule 1" add crates/tank/src/filling.rt 'fn back(n: u32) -> DipHeight { From::from(n) }'
+broken "rule 1" add crates/tank/src/filling.rt 'fn back<T: From<u32>>(n: u32) -> T { T::from(n) }'
+broken "rule 1" add crates/tank/src/filling.rt 'fn back(n: u32) -> Result<u32, DipHeight> { Err(n)? }'
 broken "rule 1" sed -i 's/^tank: /&schedule /' crates.txt
 broken "rule 1" sed -i 's/^lookup: /&correction /' crates.txt
 broken "rule 2" add crates/tank/src/filling.rt 'fn number(h: ShellHeight) -> u64 { h.shell_units() }'

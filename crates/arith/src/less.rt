@@ -5,5 +5,5 @@ ghost use Rattle.std.specs.Prelude.{◌≡◌, ◌-◌};
 pub fn less(x: u64, y: u64) -> u64
     ensures { result ≡ x - y }
 {
-    if y <= x { x - y } else { 0 }
+    x.saturating_sub(y)
 }

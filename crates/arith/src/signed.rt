@@ -7,20 +7,15 @@ pub fn size(z: i64) -> u64
     requires { mag z < 2 ^ 62 }
     ensures { result ≡ nat_abs z }
 {
-    if z < 0 {
-        return (0 - z) as u64;
-    }
-    z as u64
+    z.unsigned_abs()
 }
 
 // n with the sign of z.
 pub fn with_sign(z: i64, n: u32) -> i64
     ensures { result ≡ with_sign z n }
 {
-    if z < 0 {
-        return 0 - (n as i64);
-    }
-    n as i64
+    let n = i64::from(n);
+    if z < 0 { -n } else { n }
 }
 
 pub fn plus(y: i64, z: i64) -> i64

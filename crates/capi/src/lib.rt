@@ -49,7 +49,7 @@ pub fn milechime_litres(dh: u32, step: u32, table: &[u32], height: u32) -> Litre
     ensures on_table_answered { OnTableAnswered dh step table.now height result }
     ensures exactly { Exactly (result.refusal ≡ 12) (TooHigh dh step table.now height) }
 {
-    litres_numbers(litres_at(dh, step, table, DipHeight::of(height)))
+    litres_numbers(litres_at(dh, step, table, DipHeight::from(height)))
 }
 
 // The lowest dip height for a volume.
@@ -58,7 +58,7 @@ pub fn milechime_height(dh: u32, step: u32, table: &[u32], volume: u32) -> Heigh
     ensures lowest_answered { LowestAnswered dh step table.now volume result }
     ensures exactly { Exactly (result.refusal ≡ 13) (TooMuch dh step table.now volume) }
 {
-    height_numbers(height_for(dh, step, table, Volume::of(volume)))
+    height_numbers(height_for(dh, step, table, Volume::from(volume)))
 }
 
 // An old survey, with a header of 48 bytes, in today's format; its table stays.

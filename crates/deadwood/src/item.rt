@@ -28,8 +28,8 @@ impl Deadwood {
         ensures { result ≡ no_item }
     {
         Deadwood {
-            low: DipHeight::of(0),
-            high: DipHeight::of(1),
+            low: DipHeight::from(0),
+            high: DipHeight::from(1),
             volume: 0,
         }
     }
@@ -38,16 +38,14 @@ impl Deadwood {
     pub fn heights_fit(self, dh: u32) -> bool
         ensures { result ≡ heights_fit self dh }
     {
-        let low = self.low.units();
-        let high = self.high.units();
-        low < high && high <= dh
+        self.low < self.high && self.high <= DipHeight::from(dh)
     }
 
     // Of either sign: deadwood takes room away or adds it.
     pub fn volume_fits(self) -> bool
         ensures { result ≡ volume_fits self }
     {
-        -LARGEST_VOLUME <= self.volume && self.volume <= LARGEST_VOLUME
+        self.volume.unsigned_abs() <= LARGEST_VOLUME as u64
     }
 
     // What it takes at dip height h: the size is rounded, then the sign of the volume put on.
@@ -58,7 +56,7 @@ impl Deadwood {
         let size = share_size(
             self.low.units(),
             self.high.units(),
-            signed::size(self.volume),
+            self.volume.unsigned_abs(),
             h.units(),
         );
         signed::with_sign(self.volume, size as u32)

@@ -6,6 +6,7 @@ ghost use Rattle.deadwood.specs.Share.{share_size};
 use arith::nearest::nearest_quotient;
 
 // Of an item of so much size.
+#[tactic(auto, using(crate::specs::ShareLaws::share_nothing, crate::specs::ShareLaws::share_all, crate::specs::ShareLaws::share_part))]
 pub fn share_size(low: u32, high: u32, size: u64, h: u32) -> u64
     requires { (low < high) × (size ≤ largest_volume) }
     ensures { result ≡ share_size low high size h }
@@ -16,5 +17,5 @@ pub fn share_size(low: u32, high: u32, size: u64, h: u32) -> u64
     if high <= h {
         return size;
     }
-    nearest_quotient(size * ((h - low) as u64), (high - low) as u64)
+    nearest_quotient(size * u64::from(h - low), u64::from(high - low))
 }

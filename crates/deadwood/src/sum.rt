@@ -6,7 +6,6 @@ ghost use Rattle.deadwood.specs.Share.{shares_of};
 ghost use Rattle.deadwood.specs.ListLaws.{DeadwoodLimits};
 
 use crate::item::{Deadwood, MOST_ITEMS};
-use arith::signed;
 use measure::dip_height::DipHeight;
 
 // Of a lent list.
@@ -15,10 +14,8 @@ pub fn sum_of_shares(items: &[Deadwood], h: DipHeight) -> i64
     ensures { result ≡ shares_of items.now (dip_units h) }
 {
     let mut sum: i64 = 0;
-    let mut i: usize = 0;
-    while i < items.len() {
-        sum = signed::plus(sum, items[i].share(h));
-        i += 1;
+    for item in items {
+        sum += item.share(h);
     }
     sum
 }

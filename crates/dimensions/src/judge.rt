@@ -6,7 +6,6 @@ ghost use Rattle.refusal.specs.Test.{verdict};
 ghost use Rattle.heads.specs.Kind.{kind_of};
 ghost use Rattle.file.specs.Word.{word};
 ghost use Rattle.file.specs.Layout.{header_end, kind_at, dh_at, left_at, right_at, l3_at};
-ghost use Rattle.file.specs.SectionLaws.{Readable};
 ghost use Rattle.readings.specs.FitLaws.{NumbersFit};
 ghost use Rattle.dimensions.specs.Dimensions.{shell_diameter, head_diameter};
 ghost use Rattle.dimensions.specs.SumLaws.{SumsSmall};
@@ -45,7 +44,7 @@ fn heads_in(s: &[u8], found: Diameters) -> Result<(), Refusal>
 
 // A file that passes refusals 1 to 5: refusals 6, 7 and 14.
 pub fn measured(f: Format, s: &[u8]) -> Result<Diameters, Refusal>
-    requires { Readable f × NumbersFit f s.now }
+    requires { NumbersFit f s.now }
     ensures { result ≡ judged_by f s.now (verdict (dimension_tests f s.now)) }
 {
     let t = file_sums(f, s);

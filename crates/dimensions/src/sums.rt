@@ -1,7 +1,6 @@
 // The sums over the courses that the dimensions are made of.
 ghost use Rattle.std.specs.Prelude.{◌≡◌, ◌+◌, ◌*◌, ◌≤◌, ◌<◌, length};
 ghost use Rattle.file.specs.Layout.{course_end};
-ghost use Rattle.file.specs.SectionLaws.{Readable};
 ghost use Rattle.readings.specs.CourseLaws.{CourseFits};
 ghost use Rattle.readings.specs.FitLaws.{NumbersFit};
 ghost use Rattle.dimensions.specs.Dimensions.{sum_of, added, sums_of};
@@ -55,7 +54,7 @@ fn add(t: Sums, u: Sums) -> Sums
 
 // Over all courses of a file that passes refusals 1 to 5.
 pub(crate) fn file_sums(f: Format, s: &[u8]) -> Sums
-    requires { Readable f × NumbersFit f s.now }
+    requires { NumbersFit f s.now }
     ensures value { result ≡ sums_of f s.now }
     ensures sums_small { SumsSmall result × (1 ≤ result.lengths) × (1 ≤ result.count) }
 {

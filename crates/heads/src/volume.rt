@@ -28,7 +28,7 @@ fn half_ellipsoids(d: u64, l: u64, h: u64) -> Volume
         h * h,
         PI_UNDER * (3 * d) * CUBIC_PER_V,
     );
-    Volume::of(both as u32)
+    Volume::from(both as u32)
 }
 
 // Spherical caps of diameter d and inner length l, whose dome is walked up to h: halfway between the two totals of both domes is as much as the
@@ -38,7 +38,7 @@ fn spherical_caps(dome: DomeWalk, d: u64, l: u64, h: u64) -> Volume
     ensures { result ≡ volume (heads_volume HeadKind.SphericalCap d l h) }
 {
     let totals = dome.filled(d, l, h);
-    Volume::of(nearest_quotient(totals.fitting + totals.covering, CUBIC_PER_V) as u32)
+    Volume::from(nearest_quotient(totals.fitting + totals.covering, CUBIC_PER_V) as u32)
 }
 
 // Both heads, filled to h, where the walk has come to.
@@ -49,7 +49,7 @@ pub fn heads_volume(at: DomeWalk, kind: HeadKind, d: Diameter, l: u32, h: ShellH
     ensures { result ≡ volume (heads_volume kind (diameter_units d) l (shell_units h)) }
 {
     match kind {
-        HeadKind::Flat => Volume::of(0),
+        HeadKind::Flat => Volume::from(0),
         HeadKind::HalfEllipsoid => half_ellipsoids(d.units() as u64, l as u64, h.shell_units()),
         HeadKind::SphericalCap => spherical_caps(at, d.units() as u64, l as u64, h.shell_units()),
     }

@@ -54,5 +54,5 @@ pub fn height_for(dh: u32, step: u32, table: &[u32], volume: Volume) -> Result<D
     if last < w {
         return Err(too_much(w, last));
     }
-    Ok(DipHeight::of(lowest(dh, step, table, w, 0, dh)))
+    Ok(DipHeight::from(lowest(dh, step, table, w, 0, dh)))
 }

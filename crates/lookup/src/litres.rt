@@ -48,5 +48,5 @@ pub fn litres_at(dh: u32, step: u32, table: &[u32], height: DipHeight) -> Result
     if dh < h {
         return Err(too_high(h, dh));
     }
-    Ok(Volume::of(litres_inside(dh, step, table, h)))
+    Ok(Volume::from(litres_inside(dh, step, table, h)))
 }

@@ -2,16 +2,18 @@
 ghost use Rattle.std.specs.Prelude.{◌≡◌};
 ghost use Rattle.measure.specs.Quantity.{dip_height, dip_units};
 
-#[derive(Clone, Copy)]
+#[derive(Clone, Copy, PartialEq, Eq, PartialOrd, Ord)]
 pub struct DipHeight(u32);
 
-impl DipHeight {
-    pub fn of(units: u32) -> DipHeight
-        ensures { result ≡ dip_height units }
-    {
+impl From<u32> for DipHeight {
+    ghost from_gives = { λ n x. x ≡ dip_height n };
+
+    fn from(units: u32) -> DipHeight {
         DipHeight(units)
     }
+}
 
+impl DipHeight {
     pub fn units(self) -> u32
         ensures { result ≡ dip_units self }
     {

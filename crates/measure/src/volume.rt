@@ -8,13 +8,15 @@ pub struct Volume(u32);
 // One v in cubic u.
 pub const CUBIC_PER_V: u64 = 10_000_000_000;
 
-impl Volume {
-    pub fn of(units: u32) -> Volume
-        ensures { result ≡ volume units }
-    {
+impl From<u32> for Volume {
+    ghost from_gives = { λ n x. x ≡ volume n };
+
+    fn from(units: u32) -> Volume {
         Volume(units)
     }
+}
 
+impl Volume {
     pub fn units(self) -> u32
         ensures { result ≡ volume_units self }
     {

@@ -1,6 +1,6 @@
 // Refusal 5 of a record's numbers.
 ghost use Rattle.std.specs.Prelude.{◌≡◌, [], ◌∷◌, length, ◌+◌, ◌^◌, ◌≤◌, ◌<◌};
-ghost use Rattle.refusal.specs.Test.{verdict, first_refusal};
+ghost use Rattle.refusal.specs.Test.{verdict};
 ghost use Rattle.file.specs.Layout.{header_end, course_end, item_end, seam_end};
 ghost use Rattle.file.specs.Section.{record_long};
 ghost use Rattle.records.specs.RecordLaws.{Whole};
@@ -13,53 +13,41 @@ use file::section::Records;
 use file::word::word;
 use records::item::item_from;
 use records::record::{Record, limit};
-use refusal::{About, Refusal, about_of, next_test};
+use refusal::{About, Refusal, about_of, one_test};
 use seams::seam::{MOST_SEAMS, THICKEST_SEAM, WIDEST_SEAM};
 use tank::limits::LONGEST_SHELL;
 
-// The verdict so far, and then the numbers of a course.
+// The numbers of a course.
 #[tactic(auto, unfolding(crate::specs::Tests::course_tests))]
-fn course_tested(so_far: Result<(), Refusal>, s: &[u8], x: Record) -> Result<(), Refusal>
+fn course_tested(s: &[u8], x: Record) -> Result<(), Refusal>
     requires { Whole s.now x course_end }
-    ensures { result ≡ first_refusal so_far (verdict (course_tests s.now x)) }
+    ensures { result ≡ verdict (course_tests s.now x) }
 {
     let low = limits::SHORTEST_CIRCUMFERENCE;
     let high = limits::LONGEST_CIRCUMFERENCE;
     let short = limits::SHORTEST_COURSE;
-    let v = limit(so_far, s, x, layout::FIRST_CIRCUMFERENCE, low, high);
-    let v = limit(v, s, x, layout::SECOND_CIRCUMFERENCE, low, high);
-    let v = limit(v, s, x, layout::COURSE_LENGTH, short, LONGEST_SHELL);
-    limit(
-        v,
-        s,
-        x,
-        layout::THICKNESS,
-        limits::THINNEST,
-        limits::THICKEST,
-    )
+    limit(s, x, layout::FIRST_CIRCUMFERENCE, low, high)?;
+    limit(s, x, layout::SECOND_CIRCUMFERENCE, low, high)?;
+    limit(s, x, layout::COURSE_LENGTH, short, LONGEST_SHELL)?;
+    limit(s, x, layout::THICKNESS, limits::THINNEST, limits::THICKEST)
 }
 
-// The verdict so far, and then the heights of a deadwood item. Where they do not fit, the high one is the bad number.
-fn heights_tested(
-    so_far: Result<(), Refusal>,
-    item: Deadwood,
-    dh: u32,
-    x: Record,
-) -> Result<(), Refusal>
+// The heights of a deadwood item. Where they do not fit, the high one is the bad number.
+fn heights_tested(item: Deadwood, dh: u32, x: Record) -> Result<(), Refusal>
     requires { (x.at + item_end < 2 ^ 32) × (x.sentence + item_end < 2 ^ 32) }
-    ensures { result ≡ first_refusal so_far (verdict (heights_test item dh x ∷ [])) }
+    ensures { result ≡ verdict (heights_test item dh x ∷ []) }
 {
     let high = item.high.units() as u64;
     let sentence = x.sentence + (layout::HIGH_HEIGHT / 4) as u32;
     let about = about_of(sentence, x.item, high, 0, dh);
     let place = (x.at + layout::HIGH_HEIGHT) as u32;
-    next_test(so_far, 5, place, item.heights_fit(dh), about)
+    one_test(5, place, item.heights_fit(dh), about)
 }
 
-// The verdict so far, and then its volume.
-fn volume_tested(so_far: Result<(), Refusal>, item: Deadwood, x: Record) -> Result<(), Refusal>
+// Its volume.
+fn volume_tested(item: Deadwood, x: Record) -> Result<(), Refusal>
     requires { (x.at + item_end < 2 ^ 32) × (x.sentence + item_end < 2 ^ 32) }
-    ensures { result ≡ first_refusal so_far (verdict (volume_test item x ∷ [])) }
+    ensures { result ≡ verdict (volume_test item x ∷ []) }
 {
     let about = About {
         sentence: x.sentence + (layout::ITEM_VOLUME / 4) as u32,
@@ -69,44 +57,39 @@ fn volume_tested(so_far: Result<(), Refusal>, item: Deadwood, x: Record) -> Resu
         high: LARGEST_VOLUME,
     };
     let place = (x.at + layout::ITEM_VOLUME) as u32;
-    next_test(so_far, 5, place, item.volume_fits(), about)
+    one_test(5, place, item.volume_fits(), about)
 }
 
-// The verdict so far, and then the numbers of a deadwood item.
+// The numbers of a deadwood item.
 #[tactic(auto, unfolding(crate::specs::Tests::item_tests))]
-fn item_tested(so_far: Result<(), Refusal>, s: &[u8], x: Record) -> Result<(), Refusal>
+fn item_tested(s: &[u8], x: Record) -> Result<(), Refusal>
     requires { (header_end ≤ length s.now) × Whole s.now x item_end }
-    ensures { result ≡ first_refusal so_far (verdict (item_tests s.now x)) }
+    ensures { result ≡ verdict (item_tests s.now x) }
 {
     let item = item_from(s, x.at);
-    let v = heights_tested(so_far, item, word(s, layout::DH), x);
-    volume_tested(v, item, x)
+    heights_tested(item, word(s, layout::DH), x)?;
+    volume_tested(item, x)
 }
 
-// The verdict so far, and then the numbers of a seam item.
+// The numbers of a seam item.
 #[tactic(auto, unfolding(crate::specs::Tests::seam_tests))]
-fn seam_tested(so_far: Result<(), Refusal>, s: &[u8], x: Record) -> Result<(), Refusal>
+fn seam_tested(s: &[u8], x: Record) -> Result<(), Refusal>
     requires { Whole s.now x seam_end }
-    ensures { result ≡ first_refusal so_far (verdict (seam_tests s.now x)) }
+    ensures { result ≡ verdict (seam_tests s.now x) }
 {
-    let v = limit(so_far, s, x, layout::SEAM_NUMBER, 0, MOST_SEAMS);
-    let v = limit(v, s, x, layout::SEAM_THICKNESS, 0, THICKEST_SEAM);
-    limit(v, s, x, layout::SEAM_WIDTH, 0, WIDEST_SEAM)
+    limit(s, x, layout::SEAM_NUMBER, 0, MOST_SEAMS)?;
+    limit(s, x, layout::SEAM_THICKNESS, 0, THICKEST_SEAM)?;
+    limit(s, x, layout::SEAM_WIDTH, 0, WIDEST_SEAM)
 }
 
-// The verdict so far, and then the numbers of a record.
-pub fn record_tested(
-    records: Records,
-    so_far: Result<(), Refusal>,
-    s: &[u8],
-    x: Record,
-) -> Result<(), Refusal>
+// The numbers of a record.
+pub fn record_tested(records: Records, s: &[u8], x: Record) -> Result<(), Refusal>
     requires { (header_end ≤ length s.now) × Whole s.now x (record_long records) }
-    ensures { result ≡ first_refusal so_far (verdict (record_tests records s.now x)) }
+    ensures { result ≡ verdict (record_tests records s.now x) }
 {
     match records {
-        Records::Courses => course_tested(so_far, s, x),
-        Records::Deadwood => item_tested(so_far, s, x),
-        Records::Seams => seam_tested(so_far, s, x),
+        Records::Courses => course_tested(s, x),
+        Records::Deadwood => item_tested(s, x),
+        Records::Seams => seam_tested(s, x),
     }
 }

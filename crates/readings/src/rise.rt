@@ -2,7 +2,6 @@
 ghost use Rattle.std.specs.Prelude.{◌≡◌, ◌+◌, ◌^◌, ◌≤◌, ◌<◌, length};
 ghost use Rattle.seams.specs.SeamLaws.{SeamFits};
 ghost use Rattle.file.specs.Word.{word};
-ghost use Rattle.file.specs.SectionLaws.{Readable};
 ghost use Rattle.numbers.specs.FitLaws.{LimitsFit};
 ghost use Rattle.readings.specs.Reading.{seam_of, rise_of, corrected};
 
@@ -17,19 +16,21 @@ use seams::seam::Seam;
 
 // The seams of course i.
 fn seam_of(f: Format, s: &[u8], i: usize) -> Seam
-    requires { Readable f × LimitsFit f s.now }
+    requires { LimitsFit f s.now }
     ensures { (result ≡ seam_of f s.now i) × SeamFits result }
 {
     let x = seams(f, s);
     if i < x.count {
-        return seam_from(s, record_at(x, i));
+        seam_from(s, record_at(x, i))
+    } else {
+        Seam::none()
     }
-    Seam::none()
 }
 
 // The tape rise over them.
+#[tactic(auto, using(numbers::specs::FitLaws::dh_fits), unfolding(crate::specs::Reading::rise_of))]
 pub fn rise_of(f: Format, s: &[u8], i: usize) -> u64
-    requires { Readable f × LimitsFit f s.now }
+    requires { LimitsFit f s.now }
     ensures { result ≡ rise_of f s.now i }
 {
     tape_rise(seam_of(f, s, i), word(s, layout::DH))

@@ -1,8 +1,7 @@
 // Refusal 5: every number of the file as it stands, and then the readings that have lost the tape rise.
 ghost use Rattle.std.specs.Prelude.{◌≡◌, [], ◌∷◌, ◌+◌, ◌≤◌, ◌<◌};
-ghost use Rattle.refusal.specs.Test.{verdict, first_refusal};
+ghost use Rattle.refusal.specs.Test.{verdict};
 ghost use Rattle.file.specs.Layout.{course_end};
-ghost use Rattle.file.specs.SectionLaws.{Readable};
 ghost use Rattle.records.specs.RecordLaws.{Whole};
 ghost use Rattle.numbers.specs.FitLaws.{LimitsFit};
 ghost use Rattle.readings.specs.Tests.{reading_test, reading_tests, corrected_tests, number_tests};
@@ -18,16 +17,10 @@ use records::record::{Record, number_tested, record_of};
 use refusal::Refusal;
 use sentences::OF_CORRECTED;
 
-// The verdict so far, and then the reading at byte k of a course.
-fn reading_tested(
-    so_far: Result<(), Refusal>,
-    s: &[u8],
-    x: Record,
-    k: usize,
-    rise: u64,
-) -> Result<(), Refusal>
+// The reading at byte k of a course.
+fn reading_tested(s: &[u8], x: Record, k: usize, rise: u64) -> Result<(), Refusal>
     requires { Whole s.now x course_end × (k + 4 ≤ course_end) }
-    ensures { result ≡ first_refusal so_far (verdict (reading_test s.now x k rise ∷ [])) }
+    ensures { result ≡ verdict (reading_test s.now x k rise ∷ []) }
 {
     let course = Record {
         at: x.at,
@@ -36,48 +29,38 @@ fn reading_tested(
     };
     let reading = corrected_at(s, x.at + k, rise);
     let low = SHORTEST_CIRCUMFERENCE;
-    number_tested(so_far, course, k, low, reading, LONGEST_CIRCUMFERENCE)
+    number_tested(course, k, low, reading, LONGEST_CIRCUMFERENCE)
 }
 
-// The verdict so far, and then both readings of a course.
+// Both readings of a course.
 #[tactic(auto, unfolding(crate::specs::Tests::reading_tests))]
-fn course_readings_tested(
-    so_far: Result<(), Refusal>,
-    s: &[u8],
-    x: Record,
-    rise: u64,
-) -> Result<(), Refusal>
+fn course_readings_tested(s: &[u8], x: Record, rise: u64) -> Result<(), Refusal>
     requires { Whole s.now x course_end }
-    ensures { result ≡ first_refusal so_far (verdict (reading_tests s.now x rise)) }
+    ensures { result ≡ verdict (reading_tests s.now x rise) }
 {
-    let v = reading_tested(so_far, s, x, layout::FIRST_CIRCUMFERENCE, rise);
-    reading_tested(v, s, x, layout::SECOND_CIRCUMFERENCE, rise)
+    reading_tested(s, x, layout::FIRST_CIRCUMFERENCE, rise)?;
+    reading_tested(s, x, layout::SECOND_CIRCUMFERENCE, rise)
 }
 
 // The readings of all courses, course by course.
+#[tactic(auto, using(records::specs::RecordLaws::record_small, refusal::specs::TestLaws::passed_next), unfolding(refusal::specs::Test::items))]
 pub(crate) fn readings_tested(f: Format, s: &[u8]) -> Result<(), Refusal>
-    requires { Readable f × LimitsFit f s.now }
+    requires { LimitsFit f s.now }
     ensures { result ≡ verdict (corrected_tests f s.now) }
 {
     let x = courses(f, s);
-    let count = x.count;
-    let mut v = Ok(());
-    let mut i: usize = 0;
-    while i < count {
-        v = course_readings_tested(v, s, record_of(x, i), rise_of(f, s, i));
-        i += 1;
+    for i in 0..x.count {
+        course_readings_tested(s, record_of(x, i), rise_of(f, s, i))?;
     }
-    v
+    Ok(())
 }
 
 // Of a file whose sections are well placed, all of refusal 5.
+#[tactic(auto, using(refusal::specs::TestLaws::verdict_append))]
 pub fn numbers_tested(f: Format, s: &[u8]) -> Result<(), Refusal>
-    requires { Readable f × Placed f s.now }
+    requires { Placed f s.now }
     ensures { result ≡ verdict (number_tests f s.now) }
 {
-    let v = limits_tested(f, s);
-    match v {
-        Err(r) => Err(r),
-        Ok(()) => readings_tested(f, s),
-    }
+    limits_tested(f, s)?;
+    readings_tested(f, s)
 }

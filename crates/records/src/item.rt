@@ -15,8 +15,8 @@ pub fn item_from(s: &[u8], at: usize) -> Deadwood
     ensures { result ≡ item_from s.now at }
 {
     Deadwood {
-        low: DipHeight::of(word(s, at + layout::LOW_HEIGHT)),
-        high: DipHeight::of(word(s, at + layout::HIGH_HEIGHT)),
+        low: DipHeight::from(word(s, at + layout::LOW_HEIGHT)),
+        high: DipHeight::from(word(s, at + layout::HIGH_HEIGHT)),
         volume: signed_word(s, at + layout::ITEM_VOLUME),
     }
 }

@@ -3,16 +3,13 @@ ghost use Rattle.std.specs.Prelude.{[], ◌∷◌, replicate};
 ghost use Rattle.file.specs.Word.{word_bytes, bytes_of};
 ghost use Rattle.text.specs.Put.{Put};
 
-use text::put::put_byte;
+use text::put::{put_byte, put_bytes};
 
 // The four bytes of a number, the lowest first.
 pub fn put_word(out: &mut [u8], at: usize, n: u32) -> usize
     ensures { Put at (word_bytes n) out.old out.new result }
 {
-    let next = put_byte(out, at, (n % 256) as u8);
-    let next = put_byte(out, next, (n / 256 % 256) as u8);
-    let next = put_byte(out, next, (n / 65536 % 256) as u8);
-    put_byte(out, next, (n / 16777216 % 256) as u8)
+    put_bytes(out, at, &n.to_le_bytes())
 }
 
 // A section's words in the header: how many records, and from which byte on.
@@ -27,10 +24,8 @@ pub fn put_zeros(out: &mut [u8], at: usize, n: usize) -> usize
     ensures { Put at (replicate n 0) out.old out.new result }
 {
     let mut next = at;
-    let mut i: usize = 0;
-    while i < n {
+    for _ in 0..n {
         next = put_byte(out, next, 0);
-        i += 1;
     }
     next
 }

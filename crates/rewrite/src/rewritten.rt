@@ -5,7 +5,7 @@ ghost use Rattle.deadwood.specs.Item.{most_items};
 ghost use Rattle.file.specs.Layout.{header_end};
 ghost use Rattle.file.specs.Format.{format48};
 ghost use Rattle.file.specs.Limits.{most_courses};
-ghost use Rattle.file.specs.SectionLaws.{Small, Inside};
+ghost use Rattle.file.specs.SectionLaws.{Inside};
 ghost use Rattle.survey.specs.Survey.{decoded_as};
 ghost use Rattle.text.specs.Put.{Put};
 ghost use Rattle.rewrite.specs.Rewritten.{offset_of, section_bytes, header_of, no_seams, rewritten, most_bytes};
@@ -13,7 +13,7 @@ ghost use Rattle.rewrite.specs.Rewritten.{offset_of, section_bytes, header_of, n
 use crate::put::{put_section, put_zeros};
 use file::format::Format;
 use file::layout;
-use file::section::{Section, courses, deadwood, record_at};
+use file::section::{Section, courses, deadwood};
 use text::put::put_bytes;
 
 // The most bytes that such a file has: with 40 courses and 64 deadwood items.
@@ -42,20 +42,20 @@ fn put_header(out: &mut [u8], at: usize, s: &[u8], courses: u32, items: u32) -> 
 
 // The bytes of a section; an empty one's offset is not looked at.
 fn put_records(out: &mut [u8], at: usize, s: &[u8], x: Section) -> usize
-    requires { Inside s.now x × Small x }
+    requires { Inside s.now x }
     ensures { Put at (section_bytes s.now x) out.old out.new result }
 {
     if x.count == 0 {
         return at;
     }
     let start = x.offset;
-    let end = record_at(x, x.count);
+    let end = x.end();
     put_bytes(out, at, &s[start..end])
 }
 
 // The sections end to end, and as many seam items as courses, all 0.
 fn put_sections(out: &mut [u8], at: usize, s: &[u8], c: Section, d: Section) -> usize
-    requires { (Inside s.now c × Small c) × (Inside s.now d × Small d) }
+    requires { Inside s.now c × Inside s.now d }
     ensures { Put at (section_bytes s.now c ++ (section_bytes s.now d ++ no_seams c.count)) out.old out.new result }
 {
     let next = put_records(out, at, s, c);

@@ -6,33 +6,31 @@ ghost use Rattle.seams.specs.Rise.{first_term, second_term, tape_rise};
 
 use crate::seam::Seam;
 use arith::nearest::nearest_quotient;
-use arith::root::root_below;
-
-// The largest second term, of 12 seams of thickness 1,000 on the smallest diameter. The root is sought from there: from a guess that is
-// too large it comes down in a few steps, from one that is too small it climbs one by one.
-const LARGEST_ROOT: u64 = 4_525;
 
 // 2Ntw/d, to the nearest u.
+#[tactic(auto, using(crate::specs::SeamLaws::first_product_fits), unfolding(crate::specs::Rise::first_term))]
 fn first_term(seam: Seam, dh: u32) -> u64
     requires { SeamFits seam × (smallest ≤ dh) }
     ensures { result ≡ first_term seam dh }
 {
     nearest_quotient(
-        2 * (seam.number as u64) * (seam.thickness as u64) * (seam.width as u64),
-        dh as u64,
+        2 * u64::from(seam.number) * u64::from(seam.thickness) * u64::from(seam.width),
+        u64::from(dh),
     )
 }
 
 // (8Nt/3)·root(t/d) is the root of 64N²t³/(9d). The quotient may be cut to whole numbers before the root is: squares are whole too.
+#[tactic(auto, using(crate::specs::SeamLaws::second_product_fits, laws::proofs::RootLaws::root_unique), unfolding(crate::specs::Rise::second_term, laws::specs::Root::root_of))]
 fn second_term(seam: Seam, dh: u32) -> u64
     requires { SeamFits seam × (smallest ≤ dh) }
     ensures { result ≡ second_term seam dh }
 {
-    let n = seam.number as u64;
-    let t = seam.thickness as u64;
-    root_below(64 * n * n * (t * t * t) / (9 * (dh as u64)), LARGEST_ROOT)
+    let n = u64::from(seam.number);
+    let t = u64::from(seam.thickness);
+    (64 * n * n * (t * t * t) / (9 * u64::from(dh))).isqrt()
 }
 
+#[tactic(auto, using(crate::proofs::RiseLaws::first_term_at_most, crate::proofs::RiseLaws::second_term_at_most), unfolding(crate::specs::Rise::tape_rise))]
 pub fn tape_rise(seam: Seam, dh: u32) -> u64
     requires { SeamFits seam × (smallest ≤ dh) }
     ensures { result ≡ tape_rise seam dh }

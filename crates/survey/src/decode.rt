@@ -5,7 +5,6 @@ ghost use Rattle.file.specs.Word.{word};
 ghost use Rattle.file.specs.Layout.{header_end, dh_at};
 ghost use Rattle.file.specs.Format.{format48};
 ghost use Rattle.file.specs.Section.{deadwood};
-ghost use Rattle.file.specs.SectionLaws.{Readable};
 ghost use Rattle.form.specs.PlacedLaws.{Placed};
 ghost use Rattle.records.specs.Item.{items_of};
 ghost use Rattle.survey.specs.Survey.{tank_of, filled_up, survey_with, decoded_as, decoded};
@@ -41,7 +40,7 @@ pub struct Survey {
 
 // The deadwood items as one list of records.
 fn items(f: Format, s: &[u8]) -> [Deadwood; MOST_ITEMS]
-    requires { Readable f × Placed f s.now }
+    requires { Placed f s.now }
     ensures { result ≡ filled_up (deadwood f s.now).count (items_of f s.now) }
 {
     let x = deadwood(f, s);
@@ -70,7 +69,7 @@ fn tank_of(s: &[u8], found: Diameters) -> Tank
 
 // The survey of a file that is not refused, with its diameters.
 fn survey_of(f: Format, s: &[u8], found: Diameters) -> Survey
-    requires { Readable f × Placed f s.now × (found.dh ≡ diameter (word s.now dh_at)) }
+    requires { Placed f s.now × (found.dh ≡ diameter (word s.now dh_at)) }
     ensures { result ≡ survey_with f s.now (diameter_units found.d1) (diameter_units found.d2) }
 {
     Survey {
@@ -83,7 +82,6 @@ fn survey_of(f: Format, s: &[u8], found: Diameters) -> Survey
 
 // A file of any bytes, of any length, in a format.
 fn decode_as(f: Format, s: &[u8]) -> Result<Survey, Refusal>
-    requires { Readable f }
     ensures { result ≡ decoded_as f s.now }
 {
     let found = judged(f, s)?;

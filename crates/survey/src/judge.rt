@@ -14,8 +14,8 @@ use refusal::Refusal;
 
 // A file of any bytes, of any length, in a format.
 pub fn judged(f: Format, s: &[u8]) -> Result<Diameters, Refusal>
-    requires { Readable f }
-    ensures { result ≡ judged_by f s.now (verdict (file_tests f s.now)) }
+    ensures value { result ≡ judged_by f s.now (verdict (file_tests f s.now)) }
+    ensures readable { Readable f }
 {
     size_tested(f, s)?;
     layout_tested(f, s)?;

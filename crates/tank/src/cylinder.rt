@@ -11,5 +11,5 @@ pub fn cylinder_volume(area: u64, length: u64) -> Volume
     requires { area * length < 2 ^ 63 }
     ensures { result ≡ volume (nearest (area * length) (2 * cubic_per_v)) }
 {
-    Volume::of(nearest_quotient(area * length, 2 * CUBIC_PER_V) as u32)
+    Volume::from(nearest_quotient(area * length, 2 * CUBIC_PER_V) as u32)
 }

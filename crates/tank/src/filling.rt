@@ -29,13 +29,10 @@ impl Filling {
     pub fn empty() -> Filling
         ensures { (t : Tank) → TankLimits t → (h : ℕ) → NotPast t h result }
     {
-        let shell = Walk::start();
-        let flanges = Walk::start();
-        let heads = DomeWalk::start();
         Filling {
-            shell,
-            flanges,
-            heads,
+            shell: Walk::start(),
+            flanges: Walk::start(),
+            heads: DomeWalk::start(),
         }
     }
 
@@ -44,20 +41,12 @@ impl Filling {
         requires { TankLimits t × NotPast t (dip_units h) self }
         ensures { result ≡ filling_at t (dip_units h) }
     {
-        let kind = t.kind;
-        let d1 = t.d1;
-        let d2 = t.d2;
-        let dh = t.dh;
-        let shell = self.shell;
-        let flanges = self.flanges;
-        let heads = self.heads;
-        let shell = shell.on_to(d1, ShellHeight::corrected(d1, dh, h));
-        let flanges = flanges.on_to(d2, ShellHeight::corrected(d2, dh, h));
-        let heads = heads_on_to(heads, kind, d2, t.l3, ShellHeight::corrected(d2, dh, h));
+        let in_shell = ShellHeight::corrected(t.d1, t.dh, h);
+        let in_heads = ShellHeight::corrected(t.d2, t.dh, h);
         Filling {
-            shell,
-            flanges,
-            heads,
+            shell: self.shell.on_to(t.d1, in_shell),
+            flanges: self.flanges.on_to(t.d2, in_heads),
+            heads: heads_on_to(self.heads, t.kind, t.d2, t.l3, in_heads),
         }
     }
 
@@ -66,15 +55,10 @@ impl Filling {
         requires { TankLimits t × (self ≡ filling_at t (dip_units h)) }
         ensures { result ≡ volume (gross_at t (dip_units h)) }
     {
-        let shell = self.shell;
-        let flanges = self.flanges;
-        let heads = self.heads;
-        let kind = t.kind;
-        let d2 = t.d2;
-        let dh = t.dh;
-        let of_shell = cylinder_volume(shell.area(), t.l1 as u64);
-        let of_flanges = cylinder_volume(flanges.area(), 2 * (t.l2 as u64));
-        let of_heads = heads_volume(heads, kind, d2, t.l3, ShellHeight::corrected(d2, dh, h));
+        let in_heads = ShellHeight::corrected(t.d2, t.dh, h);
+        let of_shell = cylinder_volume(self.shell.area(), t.l1 as u64);
+        let of_flanges = cylinder_volume(self.flanges.area(), 2 * (t.l2 as u64));
+        let of_heads = heads_volume(self.heads, t.kind, t.d2, t.l3, in_heads);
         of_shell.plus(of_flanges).plus(of_heads)
     }
 }

@@ -10,7 +10,7 @@ pub returns-clause-lowest_answered : goal.returns-clause-lowest_answered
 returns-clause-lowest_answered c =
     let a = c.args in
     let told = c.height_for.ensures in
-    let asked = ap volume_units c.of.ensures in
+    let asked = ap volume_units c.from.ensures in
     let answer = told.value ∙ ap (height_answer a.dh a.step a.table.now) asked in
     rw (c.height_numbers.ensures ∙ ap height_numbers answer)
     (lowest_answered a.dh a.step a.table.now a.volume (rw (answer, asked) at told.reached))
@@ -18,5 +18,5 @@ returns-clause-lowest_answered c =
 pub returns-clause-exactly : goal.returns-clause-exactly
 returns-clause-exactly c =
     let a = c.args in
-    let answer = c.height_for.ensures.value ∙ ap (height_answer a.dh a.step a.table.now) (ap volume_units c.of.ensures) in
+    let answer = c.height_for.ensures.value ∙ ap (height_answer a.dh a.step a.table.now) (ap volume_units c.from.ensures) in
     rw (c.height_numbers.ensures ∙ ap height_numbers answer) (number_13 a.dh a.step a.table.now a.volume)

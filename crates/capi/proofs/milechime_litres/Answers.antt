@@ -10,7 +10,7 @@ pub returns-clause-on_table_answered : goal.returns-clause-on_table_answered
 returns-clause-on_table_answered c =
     let a = c.args in
     let told = c.litres_at.ensures in
-    let asked = ap dip_units c.of.ensures in
+    let asked = ap dip_units c.from.ensures in
     let answer = told.value ∙ ap (litres_answer a.dh a.step a.table.now) asked in
     rw (c.litres_numbers.ensures ∙ ap litres_numbers answer)
     (on_table_answered a.dh a.step a.table.now a.height (rw (answer, asked) at told.read_off))
@@ -18,5 +18,5 @@ returns-clause-on_table_answered c =
 pub returns-clause-exactly : goal.returns-clause-exactly
 returns-clause-exactly c =
     let a = c.args in
-    let answer = c.litres_at.ensures.value ∙ ap (litres_answer a.dh a.step a.table.now) (ap dip_units c.of.ensures) in
+    let answer = c.litres_at.ensures.value ∙ ap (litres_answer a.dh a.step a.table.now) (ap dip_units c.from.ensures) in
     rw (c.litres_numbers.ensures ∙ ap litres_numbers answer) (number_12 a.dh a.step a.table.now a.height)

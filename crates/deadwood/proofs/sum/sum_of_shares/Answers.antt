@@ -1,5 +1,6 @@
 -- `deadwood::sum::sum_of_shares` meets its contract: each share is of an item within its limits, and every sum fits. Assumes nothing.
-use Rattle.std.proofs.Common.{arith, ◌≡◌, ◌<◌, ℕ, List, length, get_or, sym, ap, ◌∙◌, pos, w64, add-one}
+use Rattle.std.proofs.Common.{arith, ◌≡◌, ◌+◌, ◌<◌, ◌^◌, ℕ, List, length, get_or, sym, ap, ◌∙◌, ℤ, pos, ◌+ℤ◌, w64, to_z, of_z, SFits, add-one}
+use Rattle.std.specs.Int.Signed.{mag}
 use Rattle.std.proofs.lemmas.Int.{to_z-of_z}
 use Rattle.std.proofs.lemmas.List.{get_or_default}
 use Rattle.laws.specs.Signed.{sumℤ}
@@ -7,54 +8,52 @@ use Rattle.laws.proofs.SignedLaws.{sumℤ-zero, sumℤ-suc}
 use Rattle.measure.specs.Quantity.{dip_units}
 use Rattle.deadwood.specs.declared.item.Deadwood.{Deadwood}
 use Rattle.deadwood.specs.Item.{deadwood, no_item, item_at}
-use Rattle.deadwood.specs.Share.{share_in, shares_of}
-use Rattle.deadwood.specs.ListLaws.{share_small, sum_small}
+use Rattle.deadwood.specs.Share.{share, share_in, shares_of}
+use Rattle.deadwood.specs.ListLaws.{DeadwoodLimits, sum_small}
 use Rattle.deadwood.proofs.sum.sum_of_shares.Goals as goal
 
--- what the code reads at a place of the list
-item_read : (items : List Deadwood) (i : ℕ) → i < length items → get_or items i (deadwood 0 0 (pos 0)) ≡ item_at items i
-item_read items i inside = get_or_default items i (deadwood 0 0 (pos 0)) no_item inside
+module _ (items : List Deadwood) (i h : ℕ) (inside : i < length items) where
+  -- what the code reads at a place of the list
+  item_read : get_or items i (deadwood 0 0 (pos 0)) ≡ item_at items i
+  item_read = get_or_default items i (deadwood 0 0 (pos 0)) no_item inside
 
-pub loop-i-init : goal.loop-i-init
-loop-i-init c = (omega arith, sym (sumℤ-zero (share_in c.args.items.now (dip_units c.args.h))))
+  -- with one share more, through its bits, the sum is that of one item more ..
+  added : {sum r : ℤ} → sum ≡ sumℤ i (share_in items h) → r ≡ share (get_or items i (deadwood 0 0 (pos 0))) h → mag r < 2 ^ 63
+      → sum +ℤ to_z w64 (of_z w64 r) ≡ sumℤ (i + 1) (share_in items h)
+  added {r = r} was now small =
+      rw (to_z-of_z w64 r (record { sfits = small }), was, now, item_read, add-one i) (sym (sumℤ-suc i (share_in items h)))
 
-pub share-requires : goal.share-requires
-share-requires c =
-    let i = c.loop-i.i in
-    let inside = c.loop-i-test.true in
-    rw (item_read c.args.items.now i inside) (c.requires.rises i inside, c.requires.volume_size i inside)
+  -- .. and fits
+  fits : DeadwoodLimits items → SFits w64 (sumℤ (i + 1) (share_in items h))
+  fits limits = record { sfits = omega (arith, sum_small items h limits (i + 1) (omega arith)) }
 
-pub plus-sum-requires : goal.plus-sum-requires
-plus-sum-requires c =
+pub loop-item-init : goal.loop-item-init
+loop-item-init c = sym (sumℤ-zero (share_in c.args.items.now (dip_units c.args.h)))
+
+pub share-sum-requires : goal.share-sum-requires
+share-sum-requires c =
+    let i = c.loop-item.item-index in
+    let inside = c.loop-item-test.true in
+    rw (item_read c.args.items.now i 0 inside) (c.requires.rises i inside, c.requires.volume_size i inside)
+
+pub overflow_add-sum : goal.overflow_add-sum
+overflow_add-sum c =
     let items = c.args.items.now in
+    let i = c.loop-item.item-index in
     let h = dip_units c.args.h in
-    let i = c.loop-i.i in
-    let inside = c.loop-i-test.true in (
-      rw c.loop-i.invariant.1 (omega (arith, sum_small items h c.requires i c.loop-i.invariant.0)),
-      rw (to_z-of_z w64 c.share.result (record { sfits = c.share.type_inv }), c.share.ensures, item_read items i inside)
-          (omega (arith, share_small items h c.requires i inside)),
-    )
+    let inside = c.loop-item-test.true in
+    rw (added items i h inside c.loop-item.invariant c.share-sum.ensures c.share-sum.type_inv) (fits items i h inside c.requires)
 
-pub loop-i-preserved : goal.loop-i-preserved
-loop-i-preserved c =
+pub loop-item-preserved : goal.loop-item-preserved
+loop-item-preserved c =
     let items = c.args.items.now in
+    let i = c.loop-item.item-index in
     let h = dip_units c.args.h in
-    let i = c.loop-i.i in
-    let inside = c.loop-i-test.true in (
-      omega arith,
-      rw (
-        to_z-of_z w64 c.plus-sum.result (record { sfits = c.plus-sum.type_inv }),
-        c.plus-sum.ensures,
-        to_z-of_z w64 c.share.result (record { sfits = c.share.type_inv }),
-        c.loop-i.invariant.1,
-        c.share.ensures,
-        item_read items i inside,
-        add-one i,
-      ) (sym (sumℤ-suc i (share_in items h))),
-    )
+    let inside = c.loop-item-test.true in
+    rw (added items i h inside c.loop-item.invariant c.share-sum.ensures c.share-sum.type_inv) (to_z-of_z w64 _ (fits items i h inside c.requires))
 
 pub returns : goal.returns
 unfolding shares_of
 returns c =
-    let all : c.loop-i.i ≡ length c.args.items.now = omega (arith, c.loop-i.invariant.0) in
-    c.loop-i.invariant.1 ∙ ap (λ (n : ℕ). sumℤ n (share_in c.args.items.now (dip_units c.args.h))) all
+    let all : c.loop-item.item-index ≡ length c.args.items.now = omega arith in
+    c.loop-item.invariant ∙ ap (λ (n : ℕ). sumℤ n (share_in c.args.items.now (dip_units c.args.h))) all

@@ -63,15 +63,15 @@ module _ (f : Format) (s : List ℕ) where
 pub lengths_tested-requires : goal.lengths_tested-requires
 lengths_tested-requires c =
     let sums = c.file_sums-t.ensures.sums_small in
-    let shell = shell_fits c.args.f c.args.s.now (as_they_stand _ _ c.requires.1) in
+    let shell = shell_fits c.args.f c.args.s.now (as_they_stand _ _ c.requires) in
     rw c.word.ensures (sums.0, omega (arith, shell, sums.0.count), omega (arith, shell, sums.0.count))
 
 pub diameters_in-requires-clause-diameters_small : goal.diameters_in-requires-clause-diameters_small
 diameters_in-requires-clause-diameters_small c =
     let f = c.args.f in
     let s = c.args.s.now in
-    let dh = dh_fits f s (as_they_stand f s c.requires.1) in
-    let small = diameters_small f s c.requires.1 in
+    let dh = dh_fits f s (as_they_stand f s c.requires) in
+    let small = diameters_small f s c.requires in
     rw c.file_sums-t.ensures.value (dh.0, dh.1, small.0, small.1)
 
 

@@ -13,27 +13,27 @@ unfolding sums_over
 loop-i-init c = refl
 
 pub rise_of-requires : goal.rise_of-requires
-rise_of-requires c = (c.requires.0, as_they_stand c.args.f c.args.s.now c.requires.1)
+rise_of-requires c = as_they_stand c.args.f c.args.s.now c.requires
 
 pub sum_of-requires : goal.sum_of-requires
 sum_of-requires c =
     let f = c.args.f in
     let s = c.args.s.now in
     let i = c.loop-i.i in
-    let one : i < (courses f s).count = omega (arith, ap (λ x. x.count) c.courses-x.ensures.0) in
-    let there = c.requires.1.placed.courses_inside in
+    let one : i < (courses f s).count = omega (arith, ap (λ x. x.count) c.courses-x.ensures) in
+    let there = c.requires.placed.courses_inside in
     let inside : record_at (courses f s) i + course_end ≤ length s = omega (arith, there.long, there.inside i one) in
-    rw (c.rise_of.ensures, c.record_at.ensures, c.courses-x.ensures.0) (inside, courses_fit f s c.requires.1 i one)
+    rw (c.rise_of.ensures, c.record_at.ensures, c.courses-x.ensures) (inside, courses_fit f s c.requires i one)
 
 pub add-t-requires : goal.add-t-requires
 add-t-requires c =
     let f = c.args.f in
     let s = c.args.s.now in
-    let fit = courses_fit f s c.requires.1 in
+    let fit = courses_fit f s c.requires in
     let l = c.loop-i in
-    let one : l.i < (courses f s).count = omega (arith, ap (λ x. x.count) c.courses-x.ensures.0) in (
-      rw l.invariant (sums_small l.i _ (omega (arith, c.requires.1.placed.few_courses)) (sums_fit f s fit l.i (omega arith))),
-      rw (c.sum_of.ensures, c.rise_of.ensures, c.record_at.ensures, c.courses-x.ensures.0)
+    let one : l.i < (courses f s).count = omega (arith, ap (λ x. x.count) c.courses-x.ensures) in (
+      rw l.invariant (sums_small l.i _ (omega (arith, c.requires.placed.few_courses)) (sums_fit f s fit l.i (omega arith))),
+      rw (c.sum_of.ensures, c.rise_of.ensures, c.record_at.ensures, c.courses-x.ensures)
           (sums_small 1 _ (omega arith) (sum_fits s (record_at (courses f s) l.i) (rise_of f s l.i) (fit l.i one))),
     )
 
@@ -42,7 +42,7 @@ unfolding sums_over
 loop-i-preserved c =
     let s = c.args.s.now in
     let l = c.loop-i in
-    let at = c.record_at.ensures ∙ ap (λ x. record_at x l.i) c.courses-x.ensures.0 in
+    let at = c.record_at.ensures ∙ ap (λ x. record_at x l.i) c.courses-x.ensures in
     rw add-one (c.add-t.ensures ∙ ap₂ added l.invariant (c.sum_of.ensures ∙ ap₂ (sum_of s) at c.rise_of.ensures))
 
 -- all courses are passed
@@ -51,8 +51,8 @@ returns-clause-value c =
     let f = c.args.f in
     let s = c.args.s.now in
     let l = c.loop-i in
-    let all : l.i ≡ (courses f s).count = omega (arith, ap (λ x. x.count) c.courses-x.ensures.0) in
+    let all : l.i ≡ (courses f s).count = omega (arith, ap (λ x. x.count) c.courses-x.ensures) in
     l.invariant ∙ ap (sums_over f s) all
 
 pub returns-clause-sums_small : goal.returns-clause-sums_small
-returns-clause-sums_small c = rw (returns-clause-value c) (file_sums_fit c.args.f c.args.s.now c.requires.1)
+returns-clause-sums_small c = rw (returns-clause-value c) (file_sums_fit c.args.f c.args.s.now c.requires)

@@ -26,4 +26,4 @@ overflow_cast-both c =
     )
 
 pub returns : goal.returns
-returns c = c.of.ensures ∙ ap volume (rounded c.args.d c.args.l c.args.h c.nearest_of_product-both.ensures)
+returns c = c.from.ensures ∙ ap volume (rounded c.args.d c.args.l c.args.h c.nearest_of_product-both.ensures)

@@ -50,5 +50,5 @@ overflow_cast-nearest_quotient c =
 
 pub returns : goal.returns
 returns c =
-    c.of.ensures
+    c.from.ensures
     ∙ ap volume (c.nearest_quotient.ensures ∙ halfway c.args.d c.args.l c.args.h c.filled-totals.result c.filled-totals.ensures)

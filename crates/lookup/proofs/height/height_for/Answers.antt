@@ -66,7 +66,7 @@ returns c =
     let fine : sound_table a.dh a.step a.table.now ≡ true = sym c.is_sound_table.ensures ∙ c.if-not-is_sound_table.false in
     let w = c.units-w.ensures in
     let h = c.lowest.ensures ∙ ap (height_for a.dh a.step a.table.now) w in
-    let given = c.of.ensures ∙ ap dip_height h in
+    let given = c.from.ensures ∙ ap dip_height h in
     let reaches : volume_units a.volume ≤ last_row a.dh a.step a.table.now = enough (sound _ _ _ fine) (omega (arith, w)) in
     let told = height_told _ _ _ _ (simp (fine, le-leb _ _ reaches) (ap Ok given)) in
     record { value = told.0; reached = told.1.0; exactly = told.1.1 }

@@ -5,7 +5,6 @@ use Rattle.file.specs.declared.format.Format.{Format}
 use Rattle.file.specs.declared.section.Section.{Section}
 use Rattle.file.specs.Format.{format48}
 use Rattle.file.specs.Section.{courses, deadwood}
-use Rattle.file.specs.SectionLaws.{format48_readable}
 use Rattle.rewrite.specs.Rewritten.{section_bytes, header_of, no_seams, rewritten}
 use Rattle.rewrite.proofs.RewrittenLaws.{accepted_placed, rewritten_fits}
 use Rattle.rewrite.proofs.rewritten.put_rewritten.Goals as goal
@@ -23,26 +22,26 @@ unfolding rewritten
 whole s e h = rw (e, h)
 
 pub courses-c-requires : goal.courses-c-requires
-courses-c-requires c = rw c.header_of_48-f.ensures (format48_readable, (accepted_placed _ c.requires).header)
+courses-c-requires c = rw c.header_of_48-f.ensures (accepted_placed _ c.requires).header
 
 pub deadwood-d-requires : goal.deadwood-d-requires
-deadwood-d-requires c = rw c.header_of_48-f.ensures (format48_readable, (accepted_placed _ c.requires).header)
+deadwood-d-requires c = rw c.header_of_48-f.ensures (accepted_placed _ c.requires).header
 
 pub put_header-next-requires : goal.put_header-next-requires
 put_header-next-requires c =
     let old = c.header_of_48-f.ensures in
     let s = c.args.s.now in (
       (accepted_placed s c.requires).header,
-      rw (old-courses s old c.courses-c.ensures.0) (accepted_placed s c.requires).few_courses,
-      rw (old-deadwood s old c.deadwood-d.ensures.0) (accepted_placed s c.requires).few_items,
+      rw (old-courses s old c.courses-c.ensures) (accepted_placed s c.requires).few_courses,
+      rw (old-deadwood s old c.deadwood-d.ensures) (accepted_placed s c.requires).few_items,
     )
 
 pub put_sections-requires : goal.put_sections-requires
 put_sections-requires c =
     let old = c.header_of_48-f.ensures in
     let s = c.args.s.now in (
-      (rw (old-courses s old c.courses-c.ensures.0) (accepted_placed s c.requires).courses_inside, c.courses-c.ensures.1),
-      (rw (old-deadwood s old c.deadwood-d.ensures.0) (accepted_placed s c.requires).deadwood_inside, c.deadwood-d.ensures.1),
+      rw (old-courses s old c.courses-c.ensures) (accepted_placed s c.requires).courses_inside,
+      rw (old-deadwood s old c.deadwood-d.ensures) (accepted_placed s c.requires).deadwood_inside,
     )
 
 pub returns-clause-put : goal.returns-clause-put
@@ -50,7 +49,7 @@ returns-clause-put c =
     let old = c.header_of_48-f.ensures in
     let s = c.args.s.now in
     let parts = put_both c.put_header-next.ensures c.put_sections.ensures in
-    rw (← whole s (old-courses s old c.courses-c.ensures.0) (old-deadwood s old c.deadwood-d.ensures.0)) parts
+    rw (← whole s (old-courses s old c.courses-c.ensures) (old-deadwood s old c.deadwood-d.ensures)) parts
 
 pub returns-clause-s_len_bound : goal.returns-clause-s_len_bound
 returns-clause-s_len_bound c = rewritten_fits c.args.s.now c.requires

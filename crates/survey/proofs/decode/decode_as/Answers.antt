@@ -10,5 +10,5 @@ pub survey_of-requires : goal.survey_of-requires
 survey_of-requires c =
     let f = c.args.f in
     let s = c.args.s.now in
-    let told = told_found f s (verdict (file_tests f s)) (sym c.in_ok-found.ensures) in
-    (c.requires, (passed_file f s c.requires told.0).0.placed, told.1)
+    let told = told_found f s (verdict (file_tests f s)) (sym c.in_ok-found.ensures.value) in
+    ((passed_file f s c.in_ok-found.ensures.readable told.0).0.placed, told.1)

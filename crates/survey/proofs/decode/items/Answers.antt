@@ -10,5 +10,5 @@ loop-i-init c = (rw c.nothing-list.ensures, filled_none _ _)
 pub loop-i-preserved : goal.loop-i-preserved
 loop-i-preserved c =
     let l = c.loop-i in
-    let few = ap (λ (x : Section). x.count) c.deadwood-x.ensures.0 in
-    (l.invariant.0, rw (c.item_from.ensures, c.record_at.ensures) (filled_more (omega (arith, few, c.requires.1.few_items, ap length l.invariant.0)) l.invariant.1))
+    let few = ap (λ (x : Section). x.count) c.deadwood-x.ensures in
+    (l.invariant.0, rw (c.item_from.ensures, c.record_at.ensures) (filled_more (omega (arith, few, c.requires.few_items, ap length l.invariant.0)) l.invariant.1))

@@ -20,34 +20,32 @@ behind f s =
     ∙ ap (first_refusal (verdict (size_tests f s))) (verdict_append (layout_tests f s) (number_tests f s ++ dimension_tests f s)
     ∙ ap (first_refusal (verdict (layout_tests f s))) (verdict_append (number_tests f s) (dimension_tests f s)))
 
-pub returns-in_err-size_tested : goal.returns-in_err-size_tested
-returns-in_err-size_tested c =
+pub returns-in_err-size_tested-clause-value : goal.returns-in_err-size_tested-clause-value
+returns-in_err-size_tested-clause-value c =
     let p = err_from_is_err_and c.from_residual.result c.from_residual.ensures.1 in
-    rw (p.1, p.2, behind c.args.f c.args.s.now, ← c.in_err-size_tested.ensures)
+    rw (p.1, p.2, behind c.args.f c.args.s.now, ← c.in_err-size_tested.ensures.value)
 
-pub returns-in_err-layout_tested : goal.returns-in_err-layout_tested
-returns-in_err-layout_tested c =
+pub returns-in_err-layout_tested-clause-value : goal.returns-in_err-layout_tested-clause-value
+returns-in_err-layout_tested-clause-value c =
     let p = err_from_is_err_and c.from_residual-in_err-layout_tested.result c.from_residual-in_err-layout_tested.ensures.1 in
-    rw (p.1, p.2, behind c.args.f c.args.s.now, ← c.in_ok-size_tested.ensures, ← c.in_err-layout_tested.ensures)
+    rw (p.1, p.2, behind c.args.f c.args.s.now, ← c.in_ok-size_tested.ensures.value, ← c.in_err-layout_tested.ensures)
 
 pub numbers_tested-requires : goal.numbers_tested-requires
 numbers_tested-requires c =
-    (c.requires, placed_file c.args.f c.args.s.now c.requires (sym c.in_ok-size_tested.ensures) (sym c.in_ok-layout_tested.ensures))
+    placed_file c.args.f c.args.s.now c.in_ok-size_tested.ensures.readable (sym c.in_ok-size_tested.ensures.value) (sym c.in_ok-layout_tested.ensures)
 
-pub returns-in_err-numbers_tested : goal.returns-in_err-numbers_tested
-returns-in_err-numbers_tested c =
+pub returns-in_err-numbers_tested-clause-value : goal.returns-in_err-numbers_tested-clause-value
+returns-in_err-numbers_tested-clause-value c =
     let p = err_from_is_err_and c.from_residual-in_err-numbers_tested.result c.from_residual-in_err-numbers_tested.ensures.1 in
-    rw (p.1, p.2, behind c.args.f c.args.s.now, ← c.in_ok-size_tested.ensures, ← c.in_ok-layout_tested.ensures, ← c.in_err-numbers_tested.ensures)
+    rw (p.1, p.2, behind c.args.f c.args.s.now, ← c.in_ok-size_tested.ensures.value, ← c.in_ok-layout_tested.ensures, ← c.in_err-numbers_tested.ensures)
 
 pub measured-requires : goal.measured-requires
-measured-requires c = (
-  c.requires,
+measured-requires c =
   record {
-    placed = placed_file c.args.f c.args.s.now c.requires (sym c.in_ok-size_tested.ensures) (sym c.in_ok-layout_tested.ensures);
+    placed = placed_file c.args.f c.args.s.now c.in_ok-size_tested.ensures.readable (sym c.in_ok-size_tested.ensures.value) (sym c.in_ok-layout_tested.ensures);
     numbers = sym c.in_ok-numbers_tested.ensures;
-  },
-)
+  }
 
-pub returns : goal.returns
-returns c =
-    rw (behind c.args.f c.args.s.now, ← c.in_ok-size_tested.ensures, ← c.in_ok-layout_tested.ensures, ← c.in_ok-numbers_tested.ensures) c.measured.ensures
+pub returns-clause-value : goal.returns-clause-value
+returns-clause-value c =
+    rw (behind c.args.f c.args.s.now, ← c.in_ok-size_tested.ensures.value, ← c.in_ok-layout_tested.ensures, ← c.in_ok-numbers_tested.ensures) c.measured.ensures

@@ -17,15 +17,15 @@ overflow_cast-size c =
     omega (
       arith,
       c.share_size-size.ensures,
-      rw (plain c.args.self.volume c.requires.1) at c.size.ensures,
-      share_size_at_most c.units.result c.units-2.result c.size.result c.units-3.result,
+      rw (plain c.args.self.volume c.requires.1) at c.unsigned_abs.ensures.value,
+      share_size_at_most c.units.result c.units-2.result c.unsigned_abs.result c.units-3.result,
     )
 
 pub returns : goal.returns
 unfolding share
 returns c =
     let volume = plain c.args.self.volume c.requires.1 in
-    let sized : c.size.result ≡ nat_abs c.args.self.volume = rw volume at c.size.ensures in
+    let sized : c.unsigned_abs.result ≡ nat_abs c.args.self.volume = rw volume at c.unsigned_abs.ensures.value in
     to_z-of_z w64 c.with_sign.result (record { sfits = c.with_sign.type_inv })
     ∙ c.with_sign.ensures
     ∙ ap₂ with_sign volume (rw (← c.units.ensures, ← c.units-2.ensures, ← sized, ← c.units-3.ensures) c.share_size-size.ensures)

@@ -16,11 +16,11 @@ ready : (d dh dip : ℕ) {h : ShellHeight} {w : Walk} → h ≡ shell_height (co
     → (w ≡ walk_at d w.level) × (w.level ≤ shell_units h) × (shell_units h ≤ d) × (d < 2 ^ 31)
 ready d dh dip e n high = rw e (n.stands, n.below, corrected_at_most d dh dip, omega arith)
 
-pub on_to-shell-requires : goal.on_to-shell-requires
-on_to-shell-requires c = ready _ _ _ c.corrected.ensures c.requires.1.shell c.requires.0.d1_high
+pub on_to-requires : goal.on_to-requires
+on_to-requires c = ready _ _ _ c.corrected-in_shell.ensures c.requires.1.shell c.requires.0.d1_high
 
-pub on_to-flanges-requires : goal.on_to-flanges-requires
-on_to-flanges-requires c = ready _ _ _ c.corrected-2.ensures c.requires.1.flanges c.requires.0.d2_high
+pub on_to-requires-2 : goal.on_to-requires-2
+on_to-requires-2 c = ready _ _ _ c.corrected-in_heads.ensures c.requires.1.flanges c.requires.0.d2_high
 
-pub heads_on_to-heads-requires-clause-limits : goal.heads_on_to-heads-requires-clause-limits
-heads_on_to-heads-requires-clause-limits c = rw c.corrected-3.ensures (corrected_at_most _ _ _, c.requires.0.d2_high, c.requires.0.heads)
+pub heads_on_to-requires-clause-limits : goal.heads_on_to-requires-clause-limits
+heads_on_to-requires-clause-limits c = rw c.corrected-in_heads.ensures (corrected_at_most _ _ _, c.requires.0.d2_high, c.requires.0.heads)
