@@ -26,7 +26,13 @@ pub fn height_said(t: Result<Tabled, Refusal>, asked: u32, out: &mut [u8], err: 
 }
 
 // The litres at the second dip height less those at the first.
-pub fn delivered_said(t: Result<Tabled, Refusal>, before: u32, after: u32, out: &mut [u8], err: &mut [u8]) -> Said
+pub fn delivered_said(
+    t: Result<Tabled, Refusal>,
+    before: u32,
+    after: u32,
+    out: &mut [u8],
+    err: &mut [u8],
+) -> Said
     ensures { Told line_size (delivered_text (delivered_in t before after)) (delivered_words (delivered_in t before after)) out.old out.new err.old err.new result }
 {
     let answer = delivered_in(t, DipHeight::from(before), DipHeight::from(after));
