@@ -14,7 +14,7 @@ use records::record::record_of;
 use refusal::Refusal;
 
 // The numbers of a section, record by record.
-#[tactic(auto, using(records::specs::RecordLaws::record_small, refusal::specs::TestLaws::passed_next), unfolding(refusal::specs::Test::items))]
+#[tactic(auto, using(records::specs::RecordLaws::record_whole, refusal::specs::TestLaws::passed_next), unfolding(refusal::specs::Test::items))]
 fn section_tested(section: Section, s: &[u8]) -> Result<(), Refusal>
     requires { Inside s.now section }
     ensures { result ≡ verdict (section_tests s.now section) }

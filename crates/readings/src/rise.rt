@@ -5,7 +5,6 @@ ghost use Rattle.file.specs.Word.{word};
 ghost use Rattle.numbers.specs.FitLaws.{LimitsFit};
 ghost use Rattle.readings.specs.Reading.{seam_of, rise_of, corrected};
 
-use arith::less::less;
 use file::format::Format;
 use file::layout;
 use file::section::{record_at, seams};
@@ -15,6 +14,7 @@ use seams::rise::tape_rise;
 use seams::seam::Seam;
 
 // The seams of course i.
+#[tactic(auto, using(numbers::specs::FitLaws::seam_from_fits))]
 fn seam_of(f: Format, s: &[u8], i: usize) -> Seam
     requires { LimitsFit f s.now }
     ensures { (result ≡ seam_of f s.now i) × SeamFits result }
@@ -41,5 +41,5 @@ pub fn corrected_at(s: &[u8], at: usize, rise: u64) -> u64
     requires { at + 4 ≤ length s.now }
     ensures { (result ≡ corrected (word s.now at) rise) × (result < 2 ^ 32) }
 {
-    less(word(s, at) as u64, rise)
+    u64::from(word(s, at)).saturating_sub(rise)
 }

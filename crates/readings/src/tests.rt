@@ -43,7 +43,7 @@ fn course_readings_tested(s: &[u8], x: Record, rise: u64) -> Result<(), Refusal>
 }
 
 // The readings of all courses, course by course.
-#[tactic(auto, using(records::specs::RecordLaws::record_small, refusal::specs::TestLaws::passed_next), unfolding(refusal::specs::Test::items))]
+#[tactic(auto, using(refusal::specs::TestLaws::passed_next), unfolding(refusal::specs::Test::items))]
 pub(crate) fn readings_tested(f: Format, s: &[u8]) -> Result<(), Refusal>
     requires { LimitsFit f s.now }
     ensures { result ≡ verdict (corrected_tests f s.now) }
