@@ -1,6 +1,6 @@
 // The answer of a lookup: its line, or the refusal.
 ghost use Rattle.std.specs.Prelude.{◌≤◌, ℕ, ℤ, List, length};
-ghost use Rattle.text.specs.Put.{Put};
+ghost use Rattle.text.specs.Wrote.{Wrote};
 ghost use Rattle.lines.specs.Lines.{line_size, signed_line};
 ghost use Rattle.said.specs.Said.{Told, answer_text, answer_words, litres_line, height_line};
 
@@ -10,29 +10,30 @@ use lines::{figure_line, signed_line};
 use measure::dip_height::DipHeight;
 use measure::volume::Volume;
 use refusal::Refusal;
+use text::put::Writer;
 
-// A value that is said in a line, at the start of the memory.
+// A value that is said in a line.
 pub trait Line {
     ghost line: { Self → List ℕ };
 
-    fn put_line(self, out: &mut [u8]) -> usize
-        ensures put { Put 0 (line self) out.old out.new result }
+    fn put_line(self, w: &mut Writer)
+        ensures put { Wrote (line self) w.old w.new }
         ensures short { length (line self) ≤ line_size };
 }
 
 impl Line for Volume {
     ghost line = { litres_line };
 
-    fn put_line(self, out: &mut [u8]) -> usize {
-        figure_line(out, 0, self.units())
+    fn put_line(self, w: &mut Writer) {
+        figure_line(w, self.units());
     }
 }
 
 impl Line for DipHeight {
     ghost line = { height_line };
 
-    fn put_line(self, out: &mut [u8]) -> usize {
-        figure_line(out, 0, self.units())
+    fn put_line(self, w: &mut Writer) {
+        figure_line(w, self.units());
     }
 }
 
@@ -40,8 +41,8 @@ impl Line for DipHeight {
 impl Line for i64 {
     ghost line = { signed_line };
 
-    fn put_line(self, out: &mut [u8]) -> usize {
-        signed_line(out, 0, self)
+    fn put_line(self, w: &mut Writer) {
+        signed_line(w, self);
     }
 }
 
@@ -49,10 +50,11 @@ pub fn answered<A: Line>(answer: Result<A, Refusal>, out: &mut [u8], err: &mut [
     ensures { Told line_size (answer_text A.line answer) (answer_words answer) out.old out.new err.old err.new result }
 {
     match answer {
-        Ok(a) => Said {
-            out: a.put_line(out),
-            err: 0,
-        },
+        Ok(a) => {
+            let mut w = Writer { out, at: 0 };
+            a.put_line(&mut w);
+            Said { out: w.at, err: 0 }
+        }
         Err(r) => refused_said(r, out, err),
     }
 }

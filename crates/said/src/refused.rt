@@ -8,16 +8,19 @@ use crate::{ERR_SIZE, LINE_SIZE, Said};
 use lines::refused_line;
 use refusal::Refusal;
 use sentences::put_words_line;
+use text::put::Writer;
 
 pub fn refused_said(refusal: Refusal, out: &mut [u8], err: &mut [u8]) -> Said
     ensures told { Told line_size (refused_text refusal) (refused_words refusal) out.old out.new err.old err.new result }
     ensures out_room { LINE_SIZE ≡ line_size }
     ensures err_room { ERR_SIZE ≡ words_size }
 {
-    let line = refused_line(out, 0, refusal.number, refusal.place);
-    let words = put_words_line(err, 0, refusal.about);
+    let mut line = Writer { out, at: 0 };
+    refused_line(&mut line, refusal.number, refusal.place);
+    let mut words = Writer { out: err, at: 0 };
+    put_words_line(&mut words, refusal.about);
     Said {
-        out: line,
-        err: words,
+        out: line.at,
+        err: words.at,
     }
 }

@@ -1,7 +1,8 @@
 // A table: the line of the row count, and a line for each row; or its refusal. A memory of OUT_SIZE and one of ERR_SIZE bytes have room for
 // all of it.
 ghost use Rattle.std.specs.Prelude.{◌≡◌, ◌*◌, ◌≤◌, length, IfOk};
-ghost use Rattle.text.specs.Put.{Put, Says};
+ghost use Rattle.text.specs.Put.{Says};
+ghost use Rattle.text.specs.Wrote.{Wrote};
 ghost use Rattle.lines.specs.Lines.{row_size};
 ghost use Rattle.said.specs.Said.{Told, answer_text, answer_words, out_size, rows_text};
 ghost use Rattle.said.specs.Rows.{AllThere, lent_text};
@@ -11,6 +12,7 @@ use crate::{OUT_SIZE, Said};
 use lines::{row_line, rows_line};
 use refusal::Refusal;
 use schedule::row_height;
+use text::put::Writer;
 
 // The rows of a table, with the dip point's height and the step that they are made for.
 #[derive(Clone, Copy)]
@@ -22,17 +24,15 @@ pub struct Rows<'a> {
 
 impl Rows<'_> {
     // The lines of the rows, behind what stands there.
-    #[tactic(auto, using(text::specs::PutLaws::put_nothing), unfolding(crate::specs::Said::rows_text))]
-    fn put_rows(self, out: &mut [u8], at: usize) -> usize
+    #[tactic(auto, using(text::specs::Wrote::wrote_nothing), unfolding(crate::specs::Said::rows_text))]
+    fn put_rows(self, w: &mut Writer)
         requires { AllThere self }
-        ensures put { Put at (rows_text self.entry.dh self.entry.step self.entry.cells.now (length self.entry.cells.now)) out.old out.new result }
+        ensures put { Wrote (rows_text self.entry.dh self.entry.step self.entry.cells.now (length self.entry.cells.now)) w.old w.new }
         ensures short { length (rows_text self.entry.dh self.entry.step self.entry.cells.now (length self.entry.cells.now)) ≤ length self.entry.cells.now * row_size }
     {
-        let mut next = at;
         for (i, cell) in self.cells.iter().enumerate() {
-            next = row_line(out, next, row_height(self.dh, self.step, i).units(), *cell);
+            row_line(w, row_height(self.dh, self.step, i).units(), *cell);
         }
-        next
     }
 
     fn put(self, out: &mut [u8]) -> usize
@@ -40,8 +40,10 @@ impl Rows<'_> {
         ensures says { Says out_size (lent_text self.entry) out.old out.new result }
         ensures out_room { OUT_SIZE ≡ out_size }
     {
-        let count = rows_line(out, 0, self.cells.len() as u32);
-        self.put_rows(out, count)
+        let mut w = Writer { out, at: 0 };
+        rows_line(&mut w, self.cells.len() as u32);
+        self.put_rows(&mut w);
+        w.at
     }
 }
 

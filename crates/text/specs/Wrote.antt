@@ -15,3 +15,7 @@ wrote_nothing w = record { put = put_nothing w.at w.out.now; kept = refl }
 
 pub wrote_both : {s t : List ℕ} {a b c : Writer} → Wrote s a b → Wrote t b c → Wrote (s ++ t) a c
 wrote_both first second = record { put = put_both first.put second.put; kept = second.kept ∙ first.kept }
+
+-- when the writer is gone, what it left stands in the memory
+pub wrote_left : {text now : List ℕ} {before after : Writer} → Wrote text before after → now ≡ after.out.now → Put before.at text before.out.now now after.at
+wrote_left wrote left = rw left wrote.put
