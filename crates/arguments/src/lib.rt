@@ -8,17 +8,18 @@ ghost use Rattle.streams.specs.Whole.{Written};
 ghost use Rattle.figures.specs.Figures.{figure_of};
 ghost use Rattle.arguments.specs.Words.{Begins, longest_word, ReadFrom};
 
-use figures::{Figure, read_figure};
+use figures::read_figure;
+use std::ops::Range;
 use streams::{Moved, argument, argument_count, read_input, read_named, write_output, write_whole};
 use survey::decode::LARGEST_FILE;
 
 // Room to read a survey: one byte more than one may have tells that it is too long.
 pub const SURVEY_ROOM: usize = LARGEST_FILE + 1;
 
-// A program's own words, arguments `first` up to `end`: behind `-f FILE` where the survey is `named` so, else behind the program's name.
+// A program's own words, arguments `first` up to `end`, behind its name and `-f FILE`; and the argument that names the survey's file, if one does.
 #[derive(Clone, Copy)]
 pub struct Own {
-    pub named: bool,
+    pub file: Option<usize>,
     pub first: usize,
     pub end: usize,
 }
@@ -29,11 +30,11 @@ pub fn is_word(rt: &HostRuntime, i: usize, word: &[u8]) -> bool
 {
     let mut text = [0u8; 16];
     let n = argument(rt, i, &mut text);
-    check::same(&text[..n], word)
+    &text[..n] == word
 }
 
 // The figure that argument i is. One that has no room here is none.
-pub fn figure_at(rt: &HostRuntime, i: usize) -> Figure
+pub fn figure_at(rt: &HostRuntime, i: usize) -> Option<u32>
     ensures { ReadFrom figure_of result }
 {
     let mut text = [0u8; 32];
@@ -41,19 +42,11 @@ pub fn figure_at(rt: &HostRuntime, i: usize) -> Figure
     read_figure(&text[..n])
 }
 
-// Whether arguments `first` up to `end` are figures, each of them.
-pub fn are_figures(rt: &HostRuntime, first: usize, end: usize) -> bool
-    ensures { end ≤ first → result ≡ true }
+// Whether these arguments are figures, each of them.
+pub fn are_figures(rt: &HostRuntime, mut words: Range<usize>) -> bool
+    ensures { words.end ≤ words.start → result ≡ true }
 {
-    let mut i = first;
-    while i < end {
-        let figure = figure_at(rt, i);
-        if let Figure::NotAFigure = figure {
-            return false;
-        }
-        i += 1;
-    }
-    true
+    words.all(|i| figure_at(rt, i).is_some())
 }
 
 // Which words are the program's own. `-f` with nothing behind it names no file: it is one of them, and no program knows it.
@@ -63,13 +56,13 @@ pub fn own_words(rt: &HostRuntime) -> Own
     let end = argument_count(rt);
     if 3 <= end && is_word(rt, 1, b"-f") {
         return Own {
-            named: true,
+            file: Some(2),
             first: 3,
             end,
         };
     }
     Own {
-        named: false,
+        file: None,
         first: 1,
         end,
     }
@@ -96,10 +89,10 @@ pub fn read_survey(rt: &HostRuntime, own: Own, buf: &mut [u8]) -> Moved
     ensures prefix_len { IsPrefixLen result.count buf.new }
     ensures buf_len_unchanged { length buf.new ≡ length buf.old }
 {
-    if own.named {
-        return read_named(rt, 2, buf);
+    match own.file {
+        Some(i) => read_named(rt, i, buf),
+        None => read_input(rt, buf),
     }
-    read_input(rt, buf)
 }
 
 // What is said, to standard output and then to standard error. Answers what came of the first.

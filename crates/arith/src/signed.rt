@@ -1,5 +1,5 @@
-// Signed numbers: the size of one, a sign put on a size, and sums that fit.
-ghost use Rattle.std.specs.Prelude.{◌≡◌, ◌^◌, ◌<◌, nat_abs, ◌+ℤ◌, ◌-ℤ◌};
+// Signed numbers: the size of one, a sign put on a size, and a difference that fits.
+ghost use Rattle.std.specs.Prelude.{◌≡◌, ◌^◌, ◌<◌, nat_abs, ◌-ℤ◌};
 ghost use Rattle.std.specs.Int.Signed.{mag};
 ghost use Rattle.laws.specs.Signed.{with_sign};
 
@@ -16,13 +16,6 @@ pub fn with_sign(z: i64, n: u32) -> i64
 {
     let n = i64::from(n);
     if z < 0 { -n } else { n }
-}
-
-pub fn plus(y: i64, z: i64) -> i64
-    requires { (mag y < 2 ^ 61) × (mag z < 2 ^ 61) }
-    ensures { result ≡ y +ℤ z }
-{
-    y + z
 }
 
 pub fn minus(y: i64, z: i64) -> i64

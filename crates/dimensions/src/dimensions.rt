@@ -13,7 +13,6 @@ ghost use Rattle.dimensions.specs.Judged.{judged_with};
 ghost use Rattle.dimensions.specs.SumLaws.{SumsSmall};
 
 use crate::sums::Sums;
-use arith::less::less;
 use arith::nearest::nearest_quotient;
 use heads::kind::HeadKind;
 use heads::length::fits_diameter;
@@ -78,7 +77,7 @@ pub(crate) fn shell_diameter(t: Sums) -> u64
     requires { SumsSmall t × (1 ≤ t.lengths) × (1 ≤ t.count) }
     ensures { result ≡ shell_diameter t }
 {
-    less(outer_diameter(t.readings, t.lengths), wall(t))
+    outer_diameter(t.readings, t.lengths).saturating_sub(wall(t))
 }
 
 // D2, of flange and head, from the circumferences at the shell's ends.
@@ -87,7 +86,7 @@ pub(crate) fn head_diameter(t: Sums, left: u32, right: u32) -> u64
     requires { SumsSmall t × (1 ≤ t.count) }
     ensures { result ≡ head_diameter t left right }
 {
-    less(outer_diameter(left as u64 + right as u64, 1), wall(t))
+    outer_diameter(u64::from(left) + u64::from(right), 1).saturating_sub(wall(t))
 }
 
 // The diameter of so many u, where it is within its limits and not far from DH.

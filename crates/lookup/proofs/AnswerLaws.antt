@@ -1,34 +1,30 @@
 -- What the answers of the lookups say outright: a volume is on the table, a height is the lowest, and refusals 12 and 13 are given exactly
 -- when the height is above DH, or the last row below the volume. Assumes nothing.
-use Rattle.std.specs.Prelude.{ℕ, ◌≤◌, ◌<◌, ◌≡◌, true, List, [], ◌∷◌, leb, Ok, Err}
+use Rattle.std.specs.Prelude.{ℕ, ◌≤◌, ◌<◌, ◌≡◌, true, List, [], ◌∷◌, leb, Result, Ok, Err}
 use Rattle.std.proofs.Math.Path.{refl}
 use Rattle.std.proofs.Common.{ap, arith, leb-true, leb-false}
 use Rattle.std.proofs.lemmas.Bool.{lt-leb}
 use Rattle.laws.specs.BoolLaws.{by_test}
 use Rattle.laws.specs.Exactly.{Exactly}
 use Rattle.laws.specs.ExactlyLaws.{exactly_when}
-use Rattle.measure.specs.Quantity.{dip_height, volume}
+use Rattle.measure.specs.declared.volume.Volume.{Volume}
+use Rattle.measure.specs.Quantity.{dip_height, volume, volume_units}
 use Rattle.refusal.specs.declared.About.{About}
 use Rattle.refusal.specs.declared.Refusal.{Refusal}
 use Rattle.refusal.specs.Test.{Test, refusal, test, verdict, Verdict}
 use Rattle.refusal.specs.TestLaws.{second_refused}
 use Rattle.lookup.specs.Table.{last_row, sound_table}
 use Rattle.lookup.specs.TableLaws.{sound}
-use Rattle.lookup.specs.Litres.{litres}
+use Rattle.lookup.specs.Litres.{litres, OnTable}
 use Rattle.lookup.proofs.LitresLaws.{on_table, never_falls_only, litres_at_top}
-use Rattle.lookup.specs.Height.{height_for}
+use Rattle.lookup.specs.Height.{height_for, Lowest}
 use Rattle.lookup.proofs.HeightLaws.{lowest_is, reached}
 use Rattle.lookup.specs.Answer.{unsound, too_high, too_much, litres_by, litres_answer, ReadOff, TooHigh, height_by, height_answer, Reached, TooMuch, LitresAnswer, HeightAnswer}
 
-abbrev height_refusal : HeightAnswer → ℕ
-height_refusal (Ok h) = 0
-height_refusal (Err r) = r.number
-
 -- the number of an answer's refusal, 0 for none
-
-abbrev litres_refusal : LitresAnswer → ℕ
-litres_refusal (Ok v) = 0
-litres_refusal (Err r) = r.number
+abbrev pub refusal_number : {A : Type 0} → Result A Refusal → ℕ
+refusal_number (Ok a) = 0
+refusal_number (Err r) = r.number
 
 module _ (dh step : ℕ) (table : List ℕ) where
   pub read_off : (h : ℕ) → ReadOff dh step table h (litres_answer dh step table h)
@@ -62,24 +58,24 @@ module _ (dh step : ℕ) (table : List ℕ) where
       (λ h. (h.0, leb-false x limit h.1))
       (λ h. (h.0, lt-leb x limit h.1))
 
-  -- of answers made of a verdict, told apart by the number of their refusal, 0 for none
-  pub refused_above : {A : Type 0} (by : Verdict → A) (number_of : A → ℕ) → number_of (by (Ok tt)) ≡ 0 → ((r : Refusal) → number_of (by (Err r)) ≡ r.number)
+  -- of answers made of a verdict, told apart by the number of their refusal
+  pub refused_above : {A : Type 0} (by : Verdict → Result A Refusal) → refusal_number (by (Ok tt)) ≡ 0 → ((r : Refusal) → refusal_number (by (Err r)) ≡ r.number)
       → (number : ℕ) (what : About) (x limit : ℕ) → 11 < number
       → Exactly (by (verdict (up_to number what x limit)) ≡ by (Err (refusal number 0 what))) ((sound_table dh step table ≡ true) × (limit < x))
-  refused_above by number_of none its number what x limit other =
+  refused_above by none its number what x limit other =
       above_limit (λ v. by v ≡ by (Err (refusal number 0 what))) number what x limit
-      (λ e. absurd (omega (arith, ap number_of e, none, its (refusal number 0 what))))
-      (λ e. absurd (omega (arith, ap number_of e, its (refusal 11 0 (unsound dh step)), its (refusal number 0 what))))
+      (λ e. absurd (omega (arith, ap refusal_number e, none, its (refusal number 0 what))))
+      (λ e. absurd (omega (arith, ap refusal_number e, its (refusal 11 0 (unsound dh step)), its (refusal number 0 what))))
       refl
 
   pub refused_too_high : (h : ℕ) → Exactly (litres_answer dh step table h ≡ Err (refusal 12 0 (too_high h dh))) (TooHigh dh step table h)
   unfolding litres_answer
-  refused_too_high h = refused_above (λ v. litres_by v (litres dh step table h)) litres_refusal refl (λ r. refl) 12 _ h dh (omega arith)
+  refused_too_high h = refused_above (λ v. litres_by v (litres dh step table h)) refl (λ r. refl) 12 _ h dh (omega arith)
 
   pub refused_too_much : (w : ℕ)
       → Exactly (height_answer dh step table w ≡ Err (refusal 13 0 (too_much w (last_row dh step table)))) (TooMuch dh step table w)
   unfolding height_answer
-  refused_too_much w = refused_above (λ v. height_by v (height_for dh step table w)) height_refusal refl (λ r. refl) 13 _ w _ (omega arith)
+  refused_too_much w = refused_above (λ v. height_by v (height_for dh step table w)) refl (λ r. refl) 13 _ w _ (omega arith)
 
   -- so the answer alone tells all that a lookup promises
   pub litres_told : (h : ℕ) {r : LitresAnswer} → r ≡ litres_answer dh step table h
@@ -90,6 +86,13 @@ module _ (dh step : ℕ) (table : List ℕ) where
       → (r ≡ height_answer dh step table w)
       × (Reached dh step table w r × Exactly (r ≡ Err (refusal 13 0 (too_much w (last_row dh step table)))) (TooMuch dh step table w))
   height_told w e = (e, rw e (reached_answer w, refused_too_much w))
+
+  -- .. of a volume or a height in hand
+  pub on_table_told : (h : ℕ) (v : Volume) → Ok v ≡ litres_answer dh step table h → OnTable dh step table h (volume_units v)
+  on_table_told h v e = (litres_told h e).1.0
+
+  pub lowest_told : (w h : ℕ) → Ok (dip_height h) ≡ height_answer dh step table w → Lowest dh step table w h
+  lowest_told w h e = (height_told w e).1.0
 
   -- and what is promised leaves no other answer
   pub read_off_only : (h v : ℕ) → sound_table dh step table ≡ true → h ≤ dh → ReadOff dh step table h (Ok (volume v)) → v ≡ litres dh step table h

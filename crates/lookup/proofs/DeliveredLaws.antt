@@ -10,7 +10,6 @@ use Rattle.laws.specs.Exactly.{Exactly}
 use Rattle.laws.proofs.HalfLaws.{difference_up}
 use Rattle.laws.proofs.SignedLaws.{minus}
 use Rattle.measure.specs.Quantity.{volume_units}
-use Rattle.refusal.specs.declared.Refusal.{Refusal}
 use Rattle.refusal.specs.Test.{refusal, verdict, Verdict}
 use Rattle.lookup.specs.Table.{sound_table}
 use Rattle.lookup.specs.TableLaws.{sound}
@@ -19,10 +18,6 @@ use Rattle.lookup.proofs.LitresLaws.{litres_mono, never_falls_only}
 use Rattle.lookup.specs.Answer.{too_high, litres_answer, ReadOff, TooHigh, LitresAnswer}
 use Rattle.lookup.proofs.AnswerLaws.{up_to, read_off, refused_above}
 use Rattle.lookup.specs.Delivered.{delivered_by, delivered_answer, ReadOffBoth, higher, DeliveredAnswer}
-
-abbrev delivered_refusal : DeliveredAnswer → ℕ
-delivered_refusal (Ok d) = 0
-delivered_refusal (Err r) = r.number
 
 -- ---- the two tests as one: of the higher height, about the first that is above DH
 
@@ -46,12 +41,6 @@ taken_off y d z e = sym (+ℤ-neg_ℤ_cancel d y) ∙ ap (λ w. w -ℤ y) (+ℤ_
 
 not_below_zero : (m n : ℕ) → m ≤ n → non_neg (pos n -ℤ pos m) ≡ true
 not_below_zero m n l = rw (minus n m, difference_up n m (n - m) (omega arith))
-
-same_litres : {y z : ℤ} → Ok y ≡ Ok z → y ≡ z
-same_litres e = cc
-
-not_litres : {r : Refusal} {d : ℤ} → Err r ≡ Ok d → ⊥
-not_litres e = let z : ◌≡◌ {A = ℕ} 0 1 = cc in omega arith
 
 module _ (dh step : ℕ) (table : List ℕ) where
   abbrev held : ℕ → ℤ
@@ -96,9 +85,10 @@ module _ (dh step : ℕ) (table : List ℕ) where
       by_test (leb (max before after) dh)
       (λ f.
       let both = leb-true (max before after) dh f in
-      record { is_sound = s; first = omega arith; second = omega arith; is = sym (same_litres (rw (s, f) at given)) })
-      (λ f. absurd (not_litres (rw (s, f) at given))))
-      (λ s. absurd (not_litres (rw s at given)))
+      let same = rw (s, f) at given in
+      record { is_sound = s; first = omega arith; second = omega arith; is = cc })
+      (λ f. let other = rw (s, f) at given in cc))
+      (λ s. let other = rw s at given in cc)
 
   pub delivered_nothing : (h : ℕ) → sound_table dh step table ≡ true → h ≤ dh → delivered_answer dh step table h h ≡ Ok (pos 0)
   delivered_nothing h s l = delivered_inside h h s l l ∙ ap Ok (+ℤ_invr (held h))
@@ -144,7 +134,7 @@ module _ (dh step : ℕ) (table : List ℕ) where
       (TooHigh dh step table (max before after))
   refused_either before after =
       rw (by_higher before after)
-      (refused_above dh step table (λ v. difference_by v (gain before after)) delivered_refusal refl (λ r. refl) 12 _ (max before after) dh (omega arith))
+      (refused_above dh step table (λ v. difference_by v (gain before after)) refl (λ r. refl) 12 _ (max before after) dh (omega arith))
 
   -- so the answer alone tells all that a lookup promises
   pub delivered_told : (before after : ℕ) {r : DeliveredAnswer} → r ≡ delivered_answer dh step table before after
@@ -152,6 +142,10 @@ module _ (dh step : ℕ) (table : List ℕ) where
       × (ReadOffBoth dh step table before after r
       × Exactly (r ≡ Err (refusal 12 0 (too_high (higher dh before after) dh))) (TooHigh dh step table (max before after)))
   delivered_told before after e = (e, rw e (read_off_both before after, refused_either before after))
+
+  pub exactly_told : (before after : ℕ) (r : DeliveredAnswer) → r ≡ delivered_answer dh step table before after
+      → Exactly (r ≡ Err (refusal 12 0 (too_high (higher dh before after) dh))) (TooHigh dh step table (max before after))
+  exactly_told before after r e = (delivered_told before after e).1.1
 
   -- and what is promised leaves no other answer
   pub read_off_both_only : (before after : ℕ) (d : ℤ) → sound_table dh step table ≡ true → before ≤ dh → after ≤ dh

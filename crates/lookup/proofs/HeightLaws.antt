@@ -1,13 +1,14 @@
 -- The lowest height for a volume is what the definition gives, and the only one; and the interval of heights that a search halves.
 -- Assumes nothing.
-use Rattle.std.specs.Prelude.{ℕ, ◌+◌, ◌≤◌, ◌<◌, ◌≡◌, List}
+use Rattle.std.specs.Prelude.{ℕ, ◌+◌, ◌≤◌, ◌<◌, ◌≡◌, true, List}
 use Rattle.std.proofs.Common.{le_refl, lt_of_le_of_lt, arith}
 use borrow.Author.Tests.{le-leb, lt-leb, leb-true, leb-false}
 use Rattle.std.proofs.Math.Dec.{leb}
 use Rattle.laws.specs.SearchLaws.{least_holds, least_first, least_unique, least_at_most}
-use Rattle.lookup.specs.TableLaws.{SoundTable}
+use Rattle.lookup.specs.Table.{last_row, sound_table}
+use Rattle.lookup.specs.TableLaws.{SoundTable, sound}
 use Rattle.lookup.specs.Litres.{litres}
-use Rattle.lookup.proofs.LitresLaws.{litres_mono}
+use Rattle.lookup.proofs.LitresLaws.{litres_at_top, litres_mono}
 use Rattle.lookup.specs.Height.{height_for, Lowest}
 use Rattle.lookup.specs.HeightLaws.{Among}
 
@@ -25,6 +26,16 @@ module _ {dh step : ℕ} {table : List ℕ} {w : ℕ} where
         inside = least_at_most dh _;
         reaches = leb-true _ _ (least_holds dh (λ h. leb w (litres dh step table h)) dh (le_refl dh) (le-leb _ _ full));
         first = λ lower m. leb-false _ _ (least_first dh (λ h. leb w (litres dh step table h)) lower m);
+      }
+
+  -- at first it is any height of the tank
+  pub among_all : sound_table dh step table ≡ true → w ≤ last_row dh step table → Among dh step table w 0 dh
+  among_all e full =
+      record {
+        order = omega arith;
+        inside = le_refl dh;
+        reaches = rw (litres_at_top dh step table (sound dh step table e)) full;
+        first = λ lower l. absurd (omega arith);
       }
 
   -- one height is left

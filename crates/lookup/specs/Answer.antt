@@ -1,8 +1,11 @@
 -- The answers of both lookups: the tests in the paper's order, each with its number, its place and what it is about, and the
 -- figure where all pass. Assumes nothing.
-use Rattle.std.specs.Prelude.{ℕ, ◌<◌, ◌≡◌, true, List, [], ◌∷◌, leb, Ok, Err}
+use Rattle.std.specs.Prelude.{ℕ, ◌<◌, ◌≡◌, true, List, [], ◌∷◌, leb, Result, Ok, Err}
+use Rattle.measure.specs.declared.dip_height.DipHeight.{DipHeight}
+use Rattle.measure.specs.declared.volume.Volume.{Volume}
 use Rattle.measure.specs.Quantity.{dip_height, dip_units, volume, volume_units}
 use Rattle.refusal.specs.declared.About.{About}
+use Rattle.refusal.specs.declared.Refusal.{Refusal}
 use Rattle.refusal.specs.Test.{Test, about, test, verdict, Verdict}
 use Rattle.sentences.specs.Sentences.{of_table, of_height, of_volume}
 use Rattle.lookup.specs.Table.{last_row, sound_table}
@@ -25,6 +28,9 @@ too_much w last = about of_volume 0 w 0 last
 
 -- ---- litres at a height
 
+abbrev pub LitresAnswer : Type 0
+LitresAnswer = Result Volume Refusal
+
 abbrev pub litres_tests : (dh step : ℕ) (table : List ℕ) (h : ℕ) → List Test
 litres_tests dh step table h = test 11 0 (sound_table dh step table) (unsound dh step) ∷ test 12 0 (leb h dh) (too_high h dh) ∷ []
 
@@ -45,6 +51,9 @@ abbrev pub TooHigh : (dh step : ℕ) (table : List ℕ) (h : ℕ) → Type 0
 TooHigh dh step table h = (sound_table dh step table ≡ true) × (dh < h)
 
 -- ---- the lowest height for a volume
+
+abbrev pub HeightAnswer : Type 0
+HeightAnswer = Result DipHeight Refusal
 
 abbrev pub height_tests : (dh step : ℕ) (table : List ℕ) (w : ℕ) → List Test
 height_tests dh step table w =

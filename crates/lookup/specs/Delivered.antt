@@ -1,10 +1,15 @@
 -- The litres delivered between two dips: those at the second height less those at the first, with their sign, or the first refusal of the
 -- two. Assumes nothing.
-use Rattle.std.specs.Prelude.{ℕ, ◌≡◌, List, ltb, ℤ, pos, ◌+ℤ◌, ◌-ℤ◌, Ok, Err}
+use Rattle.std.specs.Prelude.{ℕ, ◌≡◌, List, ltb, ℤ, pos, ◌+ℤ◌, ◌-ℤ◌, Result, Ok, Err}
 use Rattle.laws.specs.Order.{pick}
 use Rattle.measure.specs.Quantity.{volume_units}
+use Rattle.refusal.specs.declared.Refusal.{Refusal}
 use Rattle.lookup.specs.Litres.{OnTable}
 use Rattle.lookup.specs.Answer.{litres_answer, LitresAnswer}
+
+-- in v, below zero where the second height holds less
+abbrev pub DeliveredAnswer : Type 0
+DeliveredAnswer = Result ℤ Refusal
 
 abbrev pub delivered_by : LitresAnswer → LitresAnswer → DeliveredAnswer
 delivered_by (Err r) second = Err r

@@ -5,5 +5,4 @@ pub mod delivered;
 pub mod height;
 mod line;
 pub mod litres;
-mod refusals;
 mod table;

@@ -7,12 +7,13 @@ ghost use Rattle.lookup.specs.Table.{row};
 use arith::nearest::nearest_quotient;
 
 // Between rows a and b, x above the lower of them, with the rows so far apart.
+#[tactic(auto, using(crate::proofs::LineLaws::line_at_most), unfolding(crate::specs::Line::line_value))]
 fn line_value(a: u32, b: u32, x: u32, gap: u32) -> u32
     requires { (a ≤ b) × (x ≤ gap) × (0 < gap) × (gap ≤ largest_step) }
     ensures { result ≡ line_value a b x gap }
 {
-    let weighed = (a as u64) * ((gap - x) as u64) + (b as u64) * (x as u64);
-    nearest_quotient(weighed, gap as u64) as u32
+    let weighed = u64::from(a) * u64::from(gap - x) + u64::from(b) * u64::from(x);
+    nearest_quotient(weighed, u64::from(gap)) as u32
 }
 
 // x above row i of a table, on the line to row i + 1.

@@ -1,41 +1,76 @@
-// Whether a table may be looked up in: refusal 11 is given exactly where this says no.
-ghost use Rattle.std.specs.Prelude.{◌≡◌};
-ghost use Rattle.lookup.specs.Table.{never_falls, sound_table};
+// A lent table that may be looked up in, whoever made it: refusal 11 is given exactly where there is none.
+ghost use Rattle.std.specs.Prelude.{◌≡◌, ◌≤◌, true, false, MatchResult};
+ghost use Rattle.refusal.specs.Test.{refusal};
+ghost use Rattle.lookup.specs.Table.{last_row, never_falls, sound_table};
+ghost use Rattle.lookup.specs.Litres.{litres};
+ghost use Rattle.lookup.specs.Answer.{unsound};
 
+use crate::line::on_line;
 use measure::diameter::Diameter;
+use refusal::{Refusal, about_of, one_test};
+use schedule::{LARGEST_STEP, SMALLEST_STEP, row_count, row_height};
+use sentences::OF_TABLE;
 
 // No row is below the row before.
-fn never_falls(table: &[u32]) -> bool
-    ensures { result ≡ never_falls table.now }
+fn never_falls(rows: &[u32]) -> bool
+    ensures { result ≡ never_falls rows.now }
 {
-    let mut i: usize = 1;
-    while i < table.len() {
-        if table[i] < table[i - 1] {
-            return false;
-        }
-        i += 1;
-    }
-    true
+    rows.is_sorted()
 }
 
-pub fn is_sound_table(dh: u32, step: u32, table: &[u32]) -> bool
-    ensures { result ≡ sound_table dh step table.now }
+// DH and step within their limits, exactly the row count, and no row below the row before.
+#[tactic(auto, unfolding(crate::specs::Table::sound_table))]
+fn is_sound(dh: u32, step: u32, rows: &[u32]) -> bool
+    ensures { result ≡ sound_table dh step rows.now }
 {
-    if dh < Diameter::SMALLEST {
+    if !(Diameter::SMALLEST..=Diameter::LARGEST).contains(&dh) {
         return false;
     }
-    if Diameter::LARGEST < dh {
+    if !(SMALLEST_STEP..=LARGEST_STEP).contains(&step) {
         return false;
     }
-    if step < schedule::SMALLEST_STEP {
-        return false;
+    rows.len() == row_count(dh, step) && never_falls(rows)
+}
+
+// The rows, with the DH and the step that they are of.
+#[derive(Clone, Copy)]
+pub struct SoundTable<'a> {
+    pub dh: u32,
+    pub step: u32,
+    pub rows: &'a [u32],
+    ghost sound: { sound_table dh step rows.now ≡ true },
+}
+
+impl<'a> SoundTable<'a> {
+    // Refusal 11, of a table that is not sound.
+    pub fn tested(dh: u32, step: u32, rows: &'a [u32]) -> Result<SoundTable<'a>, Refusal>
+        ensures { MatchResult result (λ t. (t.dh ≡ dh) × (t.step ≡ step) × (t.rows.now ≡ rows.now)) (λ r. (sound_table dh step rows.now ≡ false) × (r ≡ refusal 11 0 (unsound dh step))) }
+    {
+        let about = about_of(OF_TABLE, dh, u64::from(step), 0, 0);
+        one_test(11, 0, is_sound(dh, step, rows), about)?;
+        Ok(SoundTable { dh, step, rows })
     }
-    if schedule::LARGEST_STEP < step {
-        return false;
+
+    // The row at DH.
+    #[tactic(auto, using(crate::specs::TableLaws::sound, schedule::specs::RowsLaws::count_pos))]
+    pub fn last(&self) -> u32
+        ensures { result ≡ last_row self.now.dh self.now.step self.now.rows.now }
+    {
+        self.rows[self.rows.len() - 1]
     }
-    let count = schedule::row_count(dh, step);
-    if table.len() != count {
-        return false;
+
+    // The litres at a height within the tank.
+    #[tactic(auto, using(crate::specs::TableLaws::sound, schedule::specs::RowsLaws::inside_count, schedule::specs::RowsLaws::inside_below, schedule::specs::RowsLaws::inside_above, schedule::specs::RowsLaws::gap_at_most))]
+    pub fn litres(&self, h: u32) -> u32
+        requires { h ≤ self.now.dh }
+        ensures { result ≡ litres self.now.dh self.now.step self.now.rows.now h }
+    {
+        if h == self.dh {
+            return self.last();
+        }
+        let i = (h / self.step) as usize;
+        let low = row_height(self.dh, self.step, i).units();
+        let high = row_height(self.dh, self.step, i + 1).units();
+        on_line(self.rows, i, h - low, high - low)
     }
-    never_falls(table)
 }

@@ -86,36 +86,3 @@ pub fn first_refusal(first: Result<(), Refusal>, second: Result<(), Refusal>) ->
     first?;
     second
 }
-
-// The verdict so far, and then one test more.
-pub fn next_test(
-    so_far: Result<(), Refusal>,
-    number: u32,
-    place: u32,
-    passes: bool,
-    about: About,
-) -> Result<(), Refusal>
-    ensures { result ≡ first_refusal so_far (verdict (test number place passes about ∷ [])) }
-{
-    first_refusal(so_far, one_test(number, place, passes, about))
-}
-
-// .. of a number, which is told with the limits that it is tested by.
-pub fn next_limited(
-    so_far: Result<(), Refusal>,
-    number: u32,
-    place: u32,
-    sentence: u32,
-    item: u32,
-    low: u32,
-    value: u64,
-    high: u32,
-) -> Result<(), Refusal>
-    requires { value < 2 ^ 63 }
-    ensures { result ≡ first_refusal so_far (verdict (limited number place sentence item low value high ∷ [])) }
-{
-    first_refusal(
-        so_far,
-        limited(number, place, sentence, item, low, value, high),
-    )
-}

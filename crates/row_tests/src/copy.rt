@@ -8,18 +8,16 @@ ghost use Rattle.row_tests.specs.Tests.{row_tests};
 ghost use Rattle.row_tests.specs.Left.{left_by};
 
 use crate::tests::rows_tested;
-use arith::signed;
 use refusal::Refusal;
 
 // The rows fit their cells.
+#[tactic(auto, using(laws::specs::FillLaws::filled_none))]
 fn copy_rows(net: &[i64], rows: usize, table: &mut [u32])
     requires { (rows ≤ length net.now) × (rows ≤ length table.old) × ((i : ℕ) → i < rows → cell_in net.now i < 2 ^ 32) }
     ensures { table.new ≡ rows_of (cell_in net.now) rows ++ drop rows table.old }
 {
-    let mut i: usize = 0;
-    while i < rows {
-        table[i] = signed::size(net[i]) as u32;
-        i += 1;
+    for i in 0..rows {
+        table[i] = net[i].unsigned_abs() as u32;
     }
 }
 
@@ -35,12 +33,7 @@ pub fn test_and_copy(
     ensures value { result ≡ verdict (row_tests (net_of net.now) (row_height dh step) rows (length table.old)) }
     ensures table_after { table.new ≡ left_by result (cell_in net.now) rows table.old }
 {
-    let v = rows_tested(net, dh, step, rows, table.len());
-    match v {
-        Err(r) => Err(r),
-        Ok(()) => {
-            copy_rows(net, rows, table);
-            Ok(())
-        }
-    }
+    rows_tested(net, dh, step, rows, table.len())?;
+    copy_rows(net, rows, table);
+    Ok(())
 }

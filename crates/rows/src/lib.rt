@@ -1,70 +1,49 @@
 // The rows of a survey's table: how many, and the net volumes, worked out from the bottom up. The caller's table is not touched here.
 #![tactic(auto)]
 
-ghost use Rattle.std.specs.Prelude.{◌≡◌, ◌++◌, ◌≤◌, ◌<◌, pos, ◌-ℤ◌, length, take, drop};
+ghost use Rattle.std.specs.Prelude.{◌≡◌, ◌++◌, ◌≤◌, length, drop};
 ghost use Rattle.laws.specs.Fill.{rows_of};
-ghost use Rattle.measure.specs.Quantity.{dip_units, volume_units};
+ghost use Rattle.measure.specs.Quantity.{dip_units};
 ghost use Rattle.schedule.specs.Rows.{most_rows};
-ghost use Rattle.tank.specs.Tank.{gross_at};
-ghost use Rattle.tank.specs.TankLaws.{TankLimits};
 ghost use Rattle.tank.specs.FillingLaws.{filling_at};
-ghost use Rattle.deadwood.specs.Item.{most_items};
-ghost use Rattle.deadwood.specs.Share.{shares_of};
-ghost use Rattle.deadwood.specs.ListLaws.{DeadwoodLimits};
 ghost use Rattle.survey.specs.SurveyLaws.{SurveyLimits};
-ghost use Rattle.rows.specs.Rows.{rows_in, net_row};
+ghost use Rattle.rows.specs.Rows.{rows_in, net_at, net_row};
 
-use arith::signed;
-use deadwood::item::{Deadwood, MOST_ITEMS};
-use deadwood::sum::sum_of_first;
+use deadwood::sum::sum_of_shares;
 use measure::dip_height::DipHeight;
 use schedule::{row_count, row_height};
 use survey::decode::Survey;
 use tank::filling::Filling;
-use tank::tank::Tank;
 
 // The number of rows.
+#[tactic(auto, using(schedule::specs::RowsLaws::few_rows))]
 pub fn rows_in(survey: Survey) -> usize
     requires { SurveyLimits survey }
     ensures { (result ≡ rows_in survey) × (result ≤ most_rows) }
 {
-    let tank = survey.tank;
-    let dh = tank.dh;
-    row_count(dh.units(), survey.step)
+    row_count(survey.tank.dh.units(), survey.step)
 }
 
 // Gross less all shares, at a dip height that the tank is filled to.
-fn net_at(
-    filling: Filling,
-    tank: Tank,
-    items: [Deadwood; MOST_ITEMS],
-    count: usize,
-    h: DipHeight,
-) -> i64
-    requires { TankLimits tank × (filling ≡ filling_at tank (dip_units h)) × (count ≤ most_items) × DeadwoodLimits (take count items) }
-    ensures { result ≡ pos (gross_at tank (dip_units h)) -ℤ shares_of (take count items) (dip_units h) }
+fn net_at(survey: &Survey, filling: Filling, h: DipHeight) -> i64
+    requires { SurveyLimits survey.now × (filling ≡ filling_at survey.now.tank (dip_units h)) }
+    ensures { result ≡ net_at survey.now (dip_units h) }
 {
-    let gross = filling.gross(tank, h);
-    signed::minus(gross.units() as i64, sum_of_first(items, count, h))
+    let shares = sum_of_shares(&survey.deadwood[..survey.count], h);
+    i64::from(filling.gross(survey.tank, h).units()) - shares
 }
 
 // The net rows into the front of `out`.
+#[tactic(auto, using(laws::specs::FillLaws::filled_none))]
 pub fn net_rows(survey: Survey, rows: usize, out: &mut [i64])
     requires { SurveyLimits survey × (rows ≡ rows_in survey) × (rows ≤ length out.old) }
     ensures { out.new ≡ rows_of (net_row survey) rows ++ drop rows out.old }
 {
-    let tank = survey.tank;
-    let dip_point = tank.dh;
-    let dh = dip_point.units();
-    let items = survey.deadwood;
-    let count = survey.count;
-    let step = survey.step;
+    let dh = survey.tank.dh.units();
     let mut filling = Filling::empty();
-    let mut i: usize = 0;
-    while i < rows {
-        let h = row_height(dh, step, i);
-        filling = filling.on_to(tank, h);
-        out[i] = net_at(filling, tank, items, count, h);
-        i += 1;
+    for i in 0..rows {
+        let h = row_height(dh, survey.step, i);
+        filling = filling.on_to(survey.tank, h);
+        out[i] = net_at(&survey, filling, h);
     }
 }

@@ -10,9 +10,7 @@ fn print_converted(rt: &HostRuntime, survey: &[u8]) {
     let mut out = [0u8; MOST_BYTES];
     let mut err = [0u8; ERR_SIZE];
     let said = conversion_said(survey, &mut out, &mut err);
-    let written = said.out;
-    let told = said.err;
-    write_said(rt, &out[..written], &err[..told]);
+    write_said(rt, &out[..said.out], &err[..said.err]);
 }
 
 fn main(rt: HostRuntime) {
@@ -27,8 +25,7 @@ fn main(rt: HostRuntime) {
     }
     let mut file = [0u8; SURVEY_ROOM];
     let got = read_survey(&rt, own, &mut file);
-    let n = got.count;
-    if got.whole {
-        print_converted(&rt, &file[..n]);
+    if got.end.is_ok() {
+        print_converted(&rt, &file[..got.count]);
     }
 }

@@ -9,9 +9,7 @@ fn print_table(rt: &HostRuntime, survey: &[u8]) {
     let mut out = [0u8; OUT_SIZE];
     let mut err = [0u8; ERR_SIZE];
     let said = table_said(survey, &mut out, &mut err);
-    let printed = said.out;
-    let told = said.err;
-    write_said(rt, &out[..printed], &err[..told]);
+    write_said(rt, &out[..said.out], &err[..said.err]);
 }
 
 fn main(rt: HostRuntime) {
@@ -23,8 +21,7 @@ fn main(rt: HostRuntime) {
     }
     let mut file = [0u8; SURVEY_ROOM];
     let got = read_survey(&rt, own, &mut file);
-    let n = got.count;
-    if got.whole {
-        print_table(&rt, &file[..n]);
+    if got.end.is_ok() {
+        print_table(&rt, &file[..got.count]);
     }
 }

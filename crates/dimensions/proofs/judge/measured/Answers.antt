@@ -74,7 +74,6 @@ diameters_in-requires-clause-diameters_small c =
     let small = diameters_small f s c.requires in
     rw c.file_sums-t.ensures.value (dh.0, dh.1, small.0, small.1)
 
-
 pub returns-in_err-lengths_tested : goal.returns-in_err-lengths_tested
 returns-in_err-lengths_tested c =
     let p = err_from_is_err_and c.from_residual.result c.from_residual.ensures.1 in

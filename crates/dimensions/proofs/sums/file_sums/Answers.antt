@@ -20,7 +20,7 @@ sum_of-requires c =
     let f = c.args.f in
     let s = c.args.s.now in
     let i = c.loop-i.i in
-    let one : i < (courses f s).count = omega (arith, ap (λ x. x.count) c.courses-x.ensures) in
+    let one : i < (courses f s).count = omega (arith, ap (λ y. y.count) (c.x.view_is ∙ c.courses-x.ensures)) in
     let there = c.requires.placed.courses_inside in
     let inside : record_at (courses f s) i + course_end ≤ length s = omega (arith, there.long, there.inside i one) in
     rw (c.rise_of.ensures, c.record_at.ensures, c.courses-x.ensures) (inside, courses_fit f s c.requires i one)
@@ -31,7 +31,7 @@ add-t-requires c =
     let s = c.args.s.now in
     let fit = courses_fit f s c.requires in
     let l = c.loop-i in
-    let one : l.i < (courses f s).count = omega (arith, ap (λ x. x.count) c.courses-x.ensures) in (
+    let one : l.i < (courses f s).count = omega (arith, ap (λ y. y.count) (c.x.view_is ∙ c.courses-x.ensures)) in (
       rw l.invariant (sums_small l.i _ (omega (arith, c.requires.placed.few_courses)) (sums_fit f s fit l.i (omega arith))),
       rw (c.sum_of.ensures, c.rise_of.ensures, c.record_at.ensures, c.courses-x.ensures)
           (sums_small 1 _ (omega arith) (sum_fits s (record_at (courses f s) l.i) (rise_of f s l.i) (fit l.i one))),
@@ -51,7 +51,7 @@ returns-clause-value c =
     let f = c.args.f in
     let s = c.args.s.now in
     let l = c.loop-i in
-    let all : l.i ≡ (courses f s).count = omega (arith, ap (λ x. x.count) c.courses-x.ensures) in
+    let all : l.i ≡ (courses f s).count = omega (arith, ap (λ y. y.count) (c.x.view_is ∙ c.courses-x.ensures)) in
     l.invariant ∙ ap (sums_over f s) all
 
 pub returns-clause-sums_small : goal.returns-clause-sums_small

@@ -15,4 +15,5 @@ end-inside s x inside some = by_count x.count refl
 
 pub slice_bounds-put_bytes-end : goal.slice_bounds-put_bytes-end
 slice_bounds-put_bytes-end c =
-    omega (arith, c.end-end.ensures.0, end-inside c.args.s.now c.args.x c.requires (omega arith))
+    let same = ap (λ y. y.count) c.x.view_is in
+    omega (arith, c.end-end.ensures.0, end-inside c.args.s.now c.args.x c.requires (omega (arith, same)))

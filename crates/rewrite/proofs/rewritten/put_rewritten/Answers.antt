@@ -32,8 +32,8 @@ put_header-next-requires c =
     let old = c.header_of_48-f.ensures in
     let s = c.args.s.now in (
       (accepted_placed s c.requires).header,
-      rw (old-courses s old c.courses-c.ensures) (accepted_placed s c.requires).few_courses,
-      rw (old-deadwood s old c.deadwood-d.ensures) (accepted_placed s c.requires).few_items,
+      rw (ap (λ y. y.count) (c.c.view_is ∙ old-courses s old c.courses-c.ensures)) (accepted_placed s c.requires).few_courses,
+      rw (ap (λ y. y.count) (c.d.view_is ∙ old-deadwood s old c.deadwood-d.ensures)) (accepted_placed s c.requires).few_items,
     )
 
 pub put_sections-requires : goal.put_sections-requires
@@ -48,7 +48,8 @@ pub returns-clause-put : goal.returns-clause-put
 returns-clause-put c =
     let old = c.header_of_48-f.ensures in
     let s = c.args.s.now in
-    let parts = put_both c.put_header-next.ensures c.put_sections.ensures in
+    let header = rw (ap (λ y. y.count) c.c.view_is, ap (λ y. y.count) c.d.view_is) at c.put_header-next.ensures in
+    let parts = put_both header c.put_sections.ensures in
     rw (← whole s (old-courses s old c.courses-c.ensures) (old-deadwood s old c.deadwood-d.ensures)) parts
 
 pub returns-clause-s_len_bound : goal.returns-clause-s_len_bound
