@@ -1,14 +1,14 @@
 -- What the programs say of a file: its table, or the file that it is converted to; or its refusal. Assumes nothing.
-use Rattle.refusal.specs.Test.{verdict_in}
-use Rattle.std.specs.Prelude.{ℕ, List}
+use Rattle.std.specs.Prelude.{ℕ, List, Result}
+use Rattle.refusal.specs.declared.Refusal.{Refusal}
 use Rattle.convert.specs.declared.Converted.{Converted}
 use Rattle.convert.specs.Converted.{file_in}
 use Rattle.survey_lookup.specs.declared.Tabled.{Tabled}
-use Rattle.said.specs.Said.{text_by, whole_text}
+use Rattle.said.specs.Said.{answer_text, whole_text}
 
-abbrev pub table_text : Tabled → List ℕ
-table_text t = text_by (verdict_in t) (whole_text t.dh t.step t.table t.rows)
+abbrev pub table_text : Result Tabled Refusal → List ℕ
+table_text table = answer_text (λ t. whole_text t.dh t.step t.table t.rows) table
 
 -- an old file converted: its bytes, and nothing beside them
-abbrev pub conversion_text : Converted → List ℕ
-conversion_text c = text_by (verdict_in c) (file_in c)
+abbrev pub conversion_text : Result Converted Refusal → List ℕ
+conversion_text conversion = answer_text file_in conversion

@@ -13,8 +13,8 @@ use said::file::file_said;
 pub fn conversion_said(survey: &[u8], out: &mut [u8], err: &mut [u8]) -> Said
     ensures { Told most_bytes (conversion_text (converted survey.now)) (verdict_words (verdict_in (converted survey.now))) out.old out.new err.old err.new result }
 {
-    let c = convert_48(survey);
-    let verdict = c.verdict;
-    let file = c.file;
-    file_said(verdict, &file, c.length, out, err)
+    match convert_48(survey) {
+        Ok(c) => file_said(Ok(&c.file[..c.length]), out, err),
+        Err(r) => file_said(Err(r), out, err),
+    }
 }

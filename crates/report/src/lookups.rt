@@ -6,28 +6,35 @@ ghost use Rattle.said.specs.Said.{Told, litres_text, litres_words, height_text, 
 
 use measure::dip_height::DipHeight;
 use measure::volume::Volume;
+use refusal::Refusal;
 use said::Said;
-use said::answers::{delivered_answered, height_answered, litres_answered};
+use said::answers::answered;
 use survey_lookup::{Tabled, delivered_in, height_in, litres_in};
 
 // The litres at a dip height.
-pub fn litres_said(t: Tabled, asked: u32, out: &mut [u8], err: &mut [u8]) -> Said
+pub fn litres_said(t: Result<Tabled, Refusal>, asked: u32, out: &mut [u8], err: &mut [u8]) -> Said
     ensures { Told line_size (litres_text (litres_in t asked)) (litres_words (litres_in t asked)) out.old out.new err.old err.new result }
 {
-    litres_answered(litres_in(t, DipHeight::from(asked)), out, err)
+    answered(litres_in(t, DipHeight::from(asked)), out, err)
 }
 
 // The lowest dip height for a volume.
-pub fn height_said(t: Tabled, asked: u32, out: &mut [u8], err: &mut [u8]) -> Said
+pub fn height_said(t: Result<Tabled, Refusal>, asked: u32, out: &mut [u8], err: &mut [u8]) -> Said
     ensures { Told line_size (height_text (height_in t asked)) (height_words (height_in t asked)) out.old out.new err.old err.new result }
 {
-    height_answered(height_in(t, Volume::from(asked)), out, err)
+    answered(height_in(t, Volume::from(asked)), out, err)
 }
 
 // The litres at the second dip height less those at the first.
-pub fn delivered_said(t: Tabled, before: u32, after: u32, out: &mut [u8], err: &mut [u8]) -> Said
+pub fn delivered_said(
+    t: Result<Tabled, Refusal>,
+    before: u32,
+    after: u32,
+    out: &mut [u8],
+    err: &mut [u8],
+) -> Said
     ensures { Told line_size (delivered_text (delivered_in t before after)) (delivered_words (delivered_in t before after)) out.old out.new err.old err.new result }
 {
     let answer = delivered_in(t, DipHeight::from(before), DipHeight::from(after));
-    delivered_answered(answer, out, err)
+    answered(answer, out, err)
 }

@@ -3,7 +3,9 @@
 use Rattle.refusal.specs.Test.{Verdict}
 use Rattle.lookup.specs.Delivered.{DeliveredAnswer}
 use Rattle.lookup.specs.Answer.{LitresAnswer, HeightAnswer}
-use Rattle.std.specs.Prelude.{ℕ, zero, suc, ◌≤◌, ◌≡◌, List, [], ◌++◌, length, Ok, Err}
+use Rattle.std.specs.Prelude.{ℕ, zero, suc, ◌≤◌, ◌≡◌, List, [], ◌++◌, length, Result, Ok, Err}
+use Rattle.measure.specs.declared.dip_height.DipHeight.{DipHeight}
+use Rattle.measure.specs.declared.volume.Volume.{Volume}
 use Rattle.measure.specs.Quantity.{dip_units, volume_units}
 use Rattle.schedule.specs.Rows.{smallest_step, row_count, row_height, most_rows}
 use Rattle.refusal.specs.declared.Refusal.{Refusal}
@@ -26,40 +28,48 @@ refused_text r = refused_line r.number r.place
 abbrev pub refused_words : Refusal → List ℕ
 refused_words r = words_line r.about
 
--- a text where nothing is refused, else the line of the refusal
+-- what is said of an answer: its text, with nothing beside it; or the line of the refusal, and what that means in words
+
+abbrev pub answer_text : {A : Type 0} → (A → List ℕ) → Result A Refusal → List ℕ
+answer_text text (Ok a) = text a
+answer_text text (Err r) = refused_text r
+
+abbrev pub answer_words : {A : Type 0} → Result A Refusal → List ℕ
+answer_words (Ok a) = []
+answer_words (Err r) = refused_words r
+
+-- .. of a verdict, with the text of what it lets pass
 unfoldable pub text_by : Verdict → List ℕ → List ℕ
-text_by (Ok tt) text = text
-text_by (Err r) text = refused_text r
+text_by verdict text = answer_text (λ passed. text) verdict
 
 abbrev pub verdict_words : Verdict → List ℕ
-verdict_words (Ok tt) = []
-verdict_words (Err r) = refused_words r
+verdict_words verdict = answer_words verdict
 
--- a lookup's answer
+-- a lookup's answer: its line
+
+abbrev pub litres_line : Volume → List ℕ
+litres_line v = figure_line (volume_units v)
 
 abbrev pub litres_text : LitresAnswer → List ℕ
-litres_text (Ok v) = figure_line (volume_units v)
-litres_text (Err r) = refused_text r
+litres_text answer = answer_text litres_line answer
 
 abbrev pub litres_words : LitresAnswer → List ℕ
-litres_words (Ok v) = []
-litres_words (Err r) = refused_words r
+litres_words answer = answer_words answer
+
+abbrev pub height_line : DipHeight → List ℕ
+height_line h = figure_line (dip_units h)
 
 abbrev pub height_text : HeightAnswer → List ℕ
-height_text (Ok h) = figure_line (dip_units h)
-height_text (Err r) = refused_text r
+height_text answer = answer_text height_line answer
 
 abbrev pub height_words : HeightAnswer → List ℕ
-height_words (Ok h) = []
-height_words (Err r) = refused_words r
+height_words answer = answer_words answer
 
 abbrev pub delivered_text : DeliveredAnswer → List ℕ
-delivered_text (Ok d) = signed_line d
-delivered_text (Err r) = refused_text r
+delivered_text answer = answer_text signed_line answer
 
 abbrev pub delivered_words : DeliveredAnswer → List ℕ
-delivered_words (Ok d) = []
-delivered_words (Err r) = refused_words r
+delivered_words answer = answer_words answer
 
 -- a table
 

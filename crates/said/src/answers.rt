@@ -1,41 +1,56 @@
 // The answer of a lookup: its line, or the refusal.
-ghost use Rattle.lines.specs.Lines.{line_size};
-ghost use Rattle.said.specs.Said.{Told, litres_text, litres_words, height_text, height_words, delivered_text, delivered_words};
+ghost use Rattle.std.specs.Prelude.{◌≤◌, ℕ, ℤ, List, length};
+ghost use Rattle.text.specs.Put.{Put};
+ghost use Rattle.lines.specs.Lines.{line_size, signed_line};
+ghost use Rattle.said.specs.Said.{Told, answer_text, answer_words, litres_line, height_line};
 
 use crate::Said;
 use crate::refused::refused_said;
 use lines::{figure_line, signed_line};
+use measure::dip_height::DipHeight;
+use measure::volume::Volume;
+use refusal::Refusal;
 
-pub fn litres_answered(answer: Result<Volume, Refusal>, out: &mut [u8], err: &mut [u8]) -> Said
-    ensures { Told line_size (litres_text «answer») (litres_words «answer») out.old out.new err.old err.new result }
-{
-    match answer {
-        Ok(v) => Said {
-            out: figure_line(out, 0, v.units()),
-            err: 0,
-        },
-        Err(r) => refused_said(r, out, err),
+// A value that is said in a line, at the start of the memory.
+pub trait Line {
+    ghost line: { Self → List ℕ };
+
+    fn put_line(self, out: &mut [u8]) -> usize
+        ensures put { Put 0 (line self) out.old out.new result }
+        ensures short { length (line self) ≤ line_size };
+}
+
+impl Line for Volume {
+    ghost line = { litres_line };
+
+    fn put_line(self, out: &mut [u8]) -> usize {
+        figure_line(out, 0, self.units())
     }
 }
 
-pub fn height_answered(answer: Result<DipHeight, Refusal>, out: &mut [u8], err: &mut [u8]) -> Said
-    ensures { Told line_size (height_text «answer») (height_words «answer») out.old out.new err.old err.new result }
-{
-    match answer {
-        Ok(h) => Said {
-            out: figure_line(out, 0, h.units()),
-            err: 0,
-        },
-        Err(r) => refused_said(r, out, err),
+impl Line for DipHeight {
+    ghost line = { height_line };
+
+    fn put_line(self, out: &mut [u8]) -> usize {
+        figure_line(out, 0, self.units())
     }
 }
 
-pub fn delivered_answered(answer: Result<i64, Refusal>, out: &mut [u8], err: &mut [u8]) -> Said
-    ensures { Told line_size (delivered_text «answer») (delivered_words «answer») out.old out.new err.old err.new result }
+// Litres delivered, with their sign.
+impl Line for i64 {
+    ghost line = { signed_line };
+
+    fn put_line(self, out: &mut [u8]) -> usize {
+        signed_line(out, 0, self)
+    }
+}
+
+pub fn answered<A: Line>(answer: Result<A, Refusal>, out: &mut [u8], err: &mut [u8]) -> Said
+    ensures { Told line_size (answer_text A.line answer) (answer_words answer) out.old out.new err.old err.new result }
 {
     match answer {
-        Ok(d) => Said {
-            out: signed_line(out, 0, d),
+        Ok(a) => Said {
+            out: a.put_line(out),
             err: 0,
         },
         Err(r) => refused_said(r, out, err),

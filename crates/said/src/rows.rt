@@ -1,10 +1,10 @@
 // A table: the line of the row count, and a line for each row; or its refusal. A memory of OUT_SIZE and one of ERR_SIZE bytes have room for
 // all of it.
-ghost use Rattle.refusal.specs.Test.{Verdict};
-ghost use Rattle.std.specs.Prelude.{◌≡◌, ◌*◌, ◌≤◌, length};
+ghost use Rattle.std.specs.Prelude.{◌≡◌, ◌*◌, ◌≤◌, length, IfOk};
 ghost use Rattle.text.specs.Put.{Put, Says};
 ghost use Rattle.lines.specs.Lines.{row_size};
-ghost use Rattle.said.specs.Said.{Told, text_by, verdict_words, out_size, Whole, rows_text, whole_text};
+ghost use Rattle.said.specs.Said.{Told, answer_text, answer_words, out_size, rows_text};
+ghost use Rattle.said.specs.Rows.{AllThere, lent_text};
 
 use crate::refused::refused_said;
 use crate::{OUT_SIZE, Said};
@@ -12,47 +12,48 @@ use lines::{row_line, rows_line};
 use refusal::Refusal;
 use schedule::row_height;
 
-// The lines of the rows, behind what stands there.
-fn put_rows(out: &mut [u8], at: usize, dh: u32, step: u32, rows: usize, table: &[u32]) -> usize
-    requires { Whole dh step rows table.now }
-    ensures put { Put at (rows_text dh step table.now rows) out.old out.new result }
-    ensures short { length (rows_text dh step table.now rows) ≤ rows * row_size }
-{
-    let mut next = at;
-    let mut i: usize = 0;
-    while i < rows {
-        next = row_line(out, next, row_height(dh, step, i).units(), table[i]);
-        i += 1;
+// The rows of a table, with the dip point's height and the step that they are made for.
+#[derive(Clone, Copy)]
+pub struct Rows<'a> {
+    pub dh: u32,
+    pub step: u32,
+    pub cells: &'a [u32],
+}
+
+impl Rows<'_> {
+    // The lines of the rows, behind what stands there.
+    #[tactic(auto, using(text::specs::PutLaws::put_nothing), unfolding(crate::specs::Said::rows_text))]
+    fn put_rows(self, out: &mut [u8], at: usize) -> usize
+        requires { AllThere self }
+        ensures put { Put at (rows_text self.entry.dh self.entry.step self.entry.cells.now (length self.entry.cells.now)) out.old out.new result }
+        ensures short { length (rows_text self.entry.dh self.entry.step self.entry.cells.now (length self.entry.cells.now)) ≤ length self.entry.cells.now * row_size }
+    {
+        let mut next = at;
+        for (i, cell) in self.cells.iter().enumerate() {
+            next = row_line(out, next, row_height(self.dh, self.step, i).units(), *cell);
+        }
+        next
     }
-    next
+
+    fn put(self, out: &mut [u8]) -> usize
+        requires { AllThere self }
+        ensures says { Says out_size (lent_text self.entry) out.old out.new result }
+        ensures out_room { OUT_SIZE ≡ out_size }
+    {
+        let count = rows_line(out, 0, self.cells.len() as u32);
+        self.put_rows(out, count)
+    }
 }
 
-fn put_table(out: &mut [u8], dh: u32, step: u32, rows: usize, table: &[u32]) -> usize
-    requires { Whole dh step rows table.now }
-    ensures says { Says out_size (whole_text dh step table.now rows) out.old out.new result }
-    ensures out_room { OUT_SIZE ≡ out_size }
+pub fn rows_said(table: Result<Rows<'_>, Refusal>, out: &mut [u8], err: &mut [u8]) -> Said
+    requires { IfOk table AllThere }
+    ensures { Told out_size (answer_text lent_text table.entry) (answer_words table.entry) out.old out.new err.old err.new result }
 {
-    let count = rows_line(out, 0, rows as u32);
-    put_rows(out, count, dh, step, rows, table)
-}
-
-pub fn rows_said(
-    verdict: Result<(), Refusal>,
-    dh: u32,
-    step: u32,
-    rows: usize,
-    table: &[u32],
-    out: &mut [u8],
-    err: &mut [u8],
-) -> Said
-    requires { «verdict» ≡ Ok tt → Whole dh step rows table.now }
-    ensures { Told out_size (text_by «verdict» (whole_text dh step table.now rows)) (verdict_words «verdict») out.old out.new err.old err.new result }
-{
-    match verdict {
-        Err(r) => refused_said(r, out, err),
-        Verdict::(Ok tt) => Said {
-            out: put_table(out, dh, step, rows, table),
+    match table {
+        Ok(rows) => Said {
+            out: rows.put(out),
             err: 0,
         },
+        Err(r) => refused_said(r, out, err),
     }
 }

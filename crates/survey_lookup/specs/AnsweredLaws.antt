@@ -1,7 +1,7 @@
 -- A lookup on a survey's own table is never refused for the table (refusal 11): every height up to DH, every volume up to the last
 -- row and every delivery between such heights is answered; and what is answered, in hand or from the file, said outright. Assumes nothing.
 use Rattle.survey.specs.Survey.{survey_in, Decoded}
-use Rattle.std.specs.Prelude.{ℕ, zero, suc, ◌-◌, ◌≤◌, ◌<◌, ◌≡◌, refl, true, List, leb, ℤ, pos, negsuc, nat_abs, ◌-ℤ◌, length, Ok, Err}
+use Rattle.std.specs.Prelude.{ℕ, zero, suc, ◌-◌, ◌≤◌, ◌<◌, ◌≡◌, refl, true, List, leb, ℤ, pos, negsuc, nat_abs, ◌-ℤ◌, length, Result, Ok, Err}
 use Rattle.std.proofs.Common.{sym, ◌∙◌, ap, arith}
 use borrow.Author.Tests.{le-leb, eq-eqb}
 use Rattle.std.specs.Int.Signed.{le_z, non_neg}
@@ -109,7 +109,7 @@ answered P refused look dh step rows p q (Err r) = q r
 -- so an answer on a table in hand tells all that a lookup promises
 told : {A : Type 0} (refused : Refusal → A) (look : ℕ → ℕ → List ℕ → A) (Own : Survey → A → Type 0)
     → ((v : Survey) → Own v (look (diameter_units v.tank.dh) v.step (table_of v))) → ((v : Survey) (r : Refusal) → Own v (refused r))
-    → (t : Tabled) {r : A} → r ≡ answer_in refused look t → (r ≡ answer_in refused look t) × AsFromFile (answer_from refused look) Own t r
+    → (t : Result Tabled Refusal) {r : A} → r ≡ answer_in refused look t → (r ≡ answer_in refused look t) × AsFromFile (answer_from refused look) Own t r
 told refused look Own p q t {r} e = (e, as_from)
   where
     as_from : AsFromFile (answer_from refused look) Own t r
@@ -117,19 +117,19 @@ told refused look Own p q t {r} e = (e, as_from)
         let same = e ∙ ap (answer_in refused look) is ∙ answer_in_file refused look file in
         (same, rw same (answered (Own (survey_in file)) refused look _ _ _ (p (survey_in file)) (q (survey_in file)) (verdict_on file most_rows)))
 
-pub litres_in_told : (t : Tabled) (h : ℕ) {r : LitresAnswer} → r ≡ litres_in t h
+pub litres_in_told : (t : Result Tabled Refusal) (h : ℕ) {r : LitresAnswer} → r ≡ litres_in t h
     → (r ≡ litres_in t h) × AsFromFile (λ file. litres_from file h) (λ v. ReadOffOwn v h) t r
 unfolding litres_in litres_from
 litres_in_told t h =
     told Err (λ d s rows. litres_answer d s rows h) (λ v. ReadOffOwn v h) (λ v. read_off _ _ _ h) (λ v r. tt) t
 
-pub height_in_told : (t : Tabled) (w : ℕ) {r : HeightAnswer} → r ≡ height_in t w
+pub height_in_told : (t : Result Tabled Refusal) (w : ℕ) {r : HeightAnswer} → r ≡ height_in t w
     → (r ≡ height_in t w) × AsFromFile (λ file. height_from file w) (λ v. ReachedOwn v w) t r
 unfolding height_in height_from
 height_in_told t w =
     told Err (λ d s rows. height_answer d s rows w) (λ v. ReachedOwn v w) (λ v. reached_answer _ _ _ w) (λ v r. tt) t
 
-pub delivered_in_told : (t : Tabled) (before after : ℕ) {r : DeliveredAnswer} → r ≡ delivered_in t before after
+pub delivered_in_told : (t : Result Tabled Refusal) (before after : ℕ) {r : DeliveredAnswer} → r ≡ delivered_in t before after
     → (r ≡ delivered_in t before after) × AsFromFile (λ file. delivered_from file before after) (λ v. ReadOffBothOwn v before after) t r
 unfolding delivered_in delivered_from
 delivered_in_told t before after =

@@ -1,8 +1,8 @@
--- A survey file's own table with what a lookup takes beside it: DH, the step and the row count; or the refusal, with all numbers 0.
--- Assumes nothing.
+-- A survey file's own table with what a lookup takes beside it: DH, the step and the row count; or the refusal. Assumes nothing.
+use Rattle.refusal.specs.declared.Refusal.{Refusal}
 use Rattle.survey.specs.Survey.{survey_in, Decoded}
 use Rattle.refusal.specs.Test.{Verdict}
-use Rattle.std.specs.Prelude.{ℕ, List, take, replicate, Ok, Err}
+use Rattle.std.specs.Prelude.{ℕ, List, take, replicate, Result, Ok, Err}
 use Rattle.measure.specs.Quantity.{diameter_units}
 use Rattle.schedule.specs.Rows.{most_rows}
 use Rattle.survey.specs.declared.decode.Survey.{Survey}
@@ -14,11 +14,11 @@ use Rattle.survey_lookup.specs.declared.Tabled.{Tabled}
 unfoldable pub no_rows : List ℕ
 no_rows = replicate most_rows 0
 
-abbrev pub tabled_by : Verdict → Survey → List ℕ → Tabled
-tabled_by (Ok tt) v table = record { verdict = Ok tt; dh = diameter_units v.tank.dh; step = v.step; rows = rows_in v; table = table }
-tabled_by (Err r) v table = record { verdict = Err r; dh = 0; step = 0; rows = 0; table = table }
+abbrev pub tabled_by : Verdict → Survey → List ℕ → Result Tabled Refusal
+tabled_by (Ok tt) v table = Ok (record { dh = diameter_units v.tank.dh; step = v.step; rows = rows_in v; table = table })
+tabled_by (Err r) v table = Err r
 
-unfoldable pub tabled : Decoded → Tabled
+unfoldable pub tabled : Decoded → Result Tabled Refusal
 tabled file = tabled_by (verdict_on file most_rows) (survey_in file) (table_left file no_rows)
 
 -- the rows of a table in hand: as many as it counts, from the front of its memory

@@ -1,6 +1,6 @@
 -- What a survey file's own table tells: the verdict on the file, and where that refuses nothing the numbers and rows of its survey.
 -- Assumes nothing.
-use Rattle.std.specs.Prelude.{ℕ, ◌≤◌, ◌≡◌, refl, List, length, take, Ok, Err}
+use Rattle.std.specs.Prelude.{ℕ, ◌≤◌, ◌≡◌, refl, List, length, take, Result, Ok, Err}
 use Rattle.std.proofs.Common.{sym, ◌∙◌, ap, arith, length-take}
 use Rattle.std.proofs.lemmas.List.{length-replicate}
 use Rattle.laws.specs.FillLaws.{length_rows_of}
@@ -34,6 +34,10 @@ tabled_verdict file = go (verdict_on file most_rows) (survey_in file) (table_lef
     go (Ok tt) v table = refl
     go (Err r) v table = refl
 
+-- the table of a survey that is not refused
+abbrev table-with : Survey → List ℕ → Tabled
+table-with v table = record { dh = diameter_units v.tank.dh; step = v.step; rows = rows_in v; table = table }
+
 pub record Ready (v : Survey) (t : Tabled) : Type 0 where
   pub step_low : smallest_step ≤ t.step
   pub rows_are : t.rows ≡ row_count t.dh t.step
@@ -41,15 +45,17 @@ pub record Ready (v : Survey) (t : Tabled) : Type 0 where
   pub inside : t.rows ≤ length t.table
   pub front : take t.rows t.table ≡ table_of v
 
-ready : (file : Decoded) → WithinLimits file → verdict_in (tabled file) ≡ Ok tt → Ready (survey_in file) (tabled file)
+ready : (file : Decoded) {t : Tabled} → WithinLimits file → tabled file ≡ Ok t → Ready (survey_in file) t
 unfolding tabled
-ready file within is-passed =
+ready file {t} within is =
     let v = (survey_in file) in
-    let passed = sym (tabled_verdict file) ∙ is-passed in
+    let passed = sym (tabled_verdict file) ∙ ap verdict_in is in
     let limits = within (passed_both (verdict_in file) (verdict (table_tests v most_rows)) passed).0 in
     let few = few_rows (diameter_units v.tank.dh) v.step limits.tank.dh_high limits.step_low in
     let front = front_is_table file no_rows (rw no_rows_room passed) in
-    rw passed (record {
+    let both : ◌≡◌ {A = Result Tabled Refusal} (Ok t) (tabled_by (Ok tt) v (table_left file no_rows)) = sym is ∙ ap (λ w. tabled_by w v (table_left file no_rows)) passed in
+    let t-is : t ≡ table-with v (table_left file no_rows) = grind arith in
+    rw t-is (record {
       step_low = limits.step_low;
       rows_are = refl;
       few = few;
@@ -58,8 +64,8 @@ ready file within is-passed =
     })
 
 -- of a file of any bytes
-pub ready_file : (s : List ℕ) {t : Tabled} → t ≡ tabled (decoded s) → verdict_in t ≡ Ok tt → Ready (survey_in (decoded s)) t
-ready_file s is is-passed = rw is (ready (decoded s) (decoded_fits s) (sym (ap (λ t. (verdict_in t)) is) ∙ is-passed))
+pub ready_file : (s : List ℕ) {t : Tabled} → Ok t ≡ tabled (decoded s) → Ready (survey_in (decoded s)) t
+ready_file s is = ready (decoded s) (decoded_fits s) (sym is)
 
 -- any lookup on a file's own table is the answer from the file
 pub answer_in_file : {A : Type 0} (refused : Refusal → A) (look : ℕ → ℕ → List ℕ → A) (file : Decoded)

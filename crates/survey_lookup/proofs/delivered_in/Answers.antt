@@ -1,21 +1,13 @@
--- `survey_lookup::delivered_in` meets its contract: by the verdict on the table in hand; the answer tells the rest. Assumes nothing.
+-- `survey_lookup::delivered_in` meets its contract: what it answers tells the rest. Assumes nothing.
+use Rattle.std.proofs.Common.{rules}
 use Rattle.survey_lookup.specs.Answer.{delivered_in}
 use Rattle.survey_lookup.specs.AnsweredLaws.{delivered_in_told}
 use Rattle.survey_lookup.proofs.delivered_in.Goals as goal
 
-pub returns-in-Err-clause-value : goal.returns-in-Err-clause-value
+pub returns-in_err-t-clause-as_from_file : goal.returns-in_err-t-clause-as_from_file
 unfolding delivered_in
-returns-in-Err-clause-value c = rw c.in-Err.is
+returns-in_err-t-clause-as_from_file c = (delivered_in_told c.args.t _ _ (search rules)).1
 
-pub returns-in-Err-clause-as_from_file : goal.returns-in-Err-clause-as_from_file
+pub returns-clause-as_from_file : goal.returns-clause-as_from_file
 unfolding delivered_in
-returns-in-Err-clause-as_from_file c = (delivered_in_told c.args.t _ _ (rw c.in-Err.is)).1
-
-pub returns-in-Ok-clause-value : goal.returns-in-Ok-clause-value
-unfolding delivered_in
-returns-in-Ok-clause-value c = rw (c.in-Ok.is, ← c.front.ensures) c.delivered.ensures.value
-
-pub returns-in-Ok-clause-as_from_file : goal.returns-in-Ok-clause-as_from_file
-unfolding delivered_in
-returns-in-Ok-clause-as_from_file c =
-    (delivered_in_told c.args.t _ _ (rw (c.in-Ok.is, ← c.front.ensures) c.delivered.ensures.value)).1
+returns-clause-as_from_file c = (delivered_in_told c.args.t _ _ (search rules)).1

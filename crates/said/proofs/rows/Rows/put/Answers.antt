@@ -1,7 +1,7 @@
--- `said::rows::put_table` meets its contract: the rows stand behind the line of their count. Assumes nothing.
+-- `said::rows::Rows::put` meets its contract: the rows stand behind the line of their count. Assumes nothing.
 use Rattle.std.proofs.Common.{arith, length-append}
 use Rattle.text.specs.PutLaws.{put_both, says}
-use Rattle.said.proofs.rows.put_table.Goals as goal
+use Rattle.said.proofs.rows.Rows.put.Goals as goal
 
 pub returns-clause-says : goal.returns-clause-says
 returns-clause-says c =
