@@ -29,7 +29,7 @@ fn fall_tested(net: &[i64], dh: u32, step: u32, i: usize) -> Result<(), Refusal>
 
 // Refusals 8 and 9 of the first `rows` rows of `net`, for a lent table of so many cells. None need be tested for being below zero: at height 0 nothing
 // is deducted, and a later row would have fallen.
-#[tactic(auto, using(refusal::specs::TestLaws::passed_next), unfolding(crate::specs::Tests::row_tests, refusal::specs::Test::items))]
+#[tactic(auto, using(crate::proofs::Room::room_short, refusal::specs::TestLaws::passed_next), unfolding(crate::specs::Tests::row_tests, refusal::specs::Test::items))]
 pub fn rows_tested(
     net: &[i64],
     dh: u32,
