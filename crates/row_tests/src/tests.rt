@@ -1,6 +1,6 @@
 // Refusals 8 and 9, on net rows in memory.
 ghost use Rattle.std.specs.Prelude.{◌≡◌, ◌^◌, ◌≤◌, ◌<◌, length};
-ghost use Rattle.refusal.specs.Test.{verdict, first_refusal};
+ghost use Rattle.refusal.specs.Test.{verdict};
 ghost use Rattle.schedule.specs.Rows.{row_count, row_height};
 ghost use Rattle.rows.specs.RowLaws.{net_of};
 ghost use Rattle.row_tests.specs.Tests.{keeps_up, fall_test, row_tests};
