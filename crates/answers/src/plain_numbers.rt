@@ -107,12 +107,15 @@ pub fn converted_numbers(answer: Result<Converted, Refusal>) -> ConvertedNumbers
     ensures { result ≡ converted_numbers answer }
 {
     match answer {
-        Ok(converted) => ConvertedNumbers {
-            refusal: 0,
-            place: 0,
-            length: converted.length as u32,
-            file: converted.file,
-        },
+        Ok(converted) => {
+            let file = converted.file;
+            ConvertedNumbers {
+                refusal: 0,
+                place: 0,
+                length: converted.length as u32,
+                file,
+            }
+        }
         Err(r) => ConvertedNumbers {
             refusal: r.number,
             place: r.place,

@@ -1,8 +1,7 @@
 // Arithmetic on machine numbers, each function equal to its definition: the nearest quotient, the nearest quotient of a product
-// that passes 64 bits, the integer root, what is left of a number, and signed numbers.
+// that passes 64 bits, the integer root, and a sign put on a size.
 #![tactic(auto)]
 
-pub mod less;
 pub mod nearest;
 pub mod product;
 pub mod root;

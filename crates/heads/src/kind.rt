@@ -31,24 +31,20 @@ impl TryFrom<u32> for HeadKind {
 
 impl HeadKind {
     // Whether a number is that of a kind.
-    #[tactic(auto, unfolding(crate::specs::Kind::kind_known))]
     pub fn is_known(number: u32) -> bool
         ensures { result ≡ kind_known number }
     {
-        number <= 2
+        HeadKind::try_from(number).is_ok()
     }
 
-    // The kind of a number that is known.
-    #[tactic(auto, unfolding(crate::specs::Kind::kind_of))]
+    // The kind of a number that is known, for those who ask where that was tested before: of any other number the last.
+    #[tactic(auto, unfolding(crate::specs::Kind::kind_known, crate::specs::Kind::kind_of))]
     pub fn of(number: u32) -> HeadKind
         ensures { result ≡ kind_of number }
     {
-        if number == 0 {
-            return HeadKind::Flat;
+        match HeadKind::try_from(number) {
+            Ok(kind) => kind,
+            Err(_) => HeadKind::SphericalCap,
         }
-        if number == 1 {
-            return HeadKind::HalfEllipsoid;
-        }
-        HeadKind::SphericalCap
     }
 }

@@ -1,5 +1,5 @@
 // Refusal 5: every number of the file as it stands, and then the readings that have lost the tape rise.
-ghost use Rattle.std.specs.Prelude.{◌≡◌, [], ◌∷◌, ◌+◌, ◌≤◌, ◌<◌};
+ghost use Rattle.std.specs.Prelude.{◌≡◌, [], ◌∷◌, ◌+◌, ◌≤◌};
 ghost use Rattle.refusal.specs.Test.{verdict};
 ghost use Rattle.file.specs.Layout.{course_end};
 ghost use Rattle.records.specs.RecordLaws.{Whole};

@@ -1,6 +1,6 @@
 // Refusals 8 and 9, on net rows in memory.
 ghost use Rattle.std.specs.Prelude.{◌≡◌, ◌^◌, ◌≤◌, ◌<◌, length};
-ghost use Rattle.refusal.specs.Test.{verdict, first_refusal};
+ghost use Rattle.refusal.specs.Test.{verdict};
 ghost use Rattle.schedule.specs.Rows.{row_count, row_height};
 ghost use Rattle.rows.specs.RowLaws.{net_of};
 ghost use Rattle.row_tests.specs.Tests.{keeps_up, fall_test, row_tests};
@@ -29,7 +29,7 @@ fn fall_tested(net: &[i64], dh: u32, step: u32, i: usize) -> Result<(), Refusal>
 
 // Refusals 8 and 9 of the first `rows` rows of `net`, for a lent table of so many cells. None need be tested for being below zero: at height 0 nothing
 // is deducted, and a later row would have fallen.
-#[tactic(auto, using(refusal::specs::TestLaws::passed_next), unfolding(crate::specs::Tests::row_tests, refusal::specs::Test::items))]
+#[tactic(auto, using(crate::proofs::Room::room_short, refusal::specs::TestLaws::passed_next), unfolding(crate::specs::Tests::row_tests, refusal::specs::Test::items))]
 pub fn rows_tested(
     net: &[i64],
     dh: u32,

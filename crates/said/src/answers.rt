@@ -1,5 +1,5 @@
 // The answer of a lookup: its line, or the refusal.
-ghost use Rattle.std.specs.Prelude.{◌≤◌, ℕ, ℤ, List, length};
+ghost use Rattle.std.specs.Prelude.{◌≤◌, ℕ, List, length};
 ghost use Rattle.text.specs.Wrote.{Wrote};
 ghost use Rattle.lines.specs.Lines.{line_size, signed_line};
 ghost use Rattle.said.specs.Said.{Told, answer_text, answer_words, litres_line, height_line};

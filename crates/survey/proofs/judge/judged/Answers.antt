@@ -41,10 +41,10 @@ returns-in_err-numbers_tested-clause-value c =
 
 pub measured-requires : goal.measured-requires
 measured-requires c =
-  record {
-    placed = placed_file c.args.f c.args.s.now c.in_ok-size_tested.ensures.readable (sym c.in_ok-size_tested.ensures.value) (sym c.in_ok-layout_tested.ensures);
-    numbers = sym c.in_ok-numbers_tested.ensures;
-  }
+    record {
+      placed = placed_file c.args.f c.args.s.now c.in_ok-size_tested.ensures.readable (sym c.in_ok-size_tested.ensures.value) (sym c.in_ok-layout_tested.ensures);
+      numbers = sym c.in_ok-numbers_tested.ensures;
+    }
 
 pub returns-clause-value : goal.returns-clause-value
 returns-clause-value c =
