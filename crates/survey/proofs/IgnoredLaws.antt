@@ -120,7 +120,7 @@ sizes_agree header size size' alike r r' q q' same first first' =
     one true false r q e = ap Err e
     one false false r q e = ap Err e
 
-    choose : (b : Bool) → pick b (Ok tt) (Err (plain_refusal r)) ≡ pick b (Ok tt) (Err (plain_refusal r'))
+    choose : (b : Bool) → ◌≡◌ {A = Verdict} (pick b (Ok tt) (Err (plain_refusal r))) (pick b (Ok tt) (Err (plain_refusal r')))
     choose true = refl
     choose false = ap Err same
 
@@ -291,7 +291,7 @@ module _ (f : Format) (s s' : List ℕ) (readable : Readable f) (same : SameSect
   same_decoded = by_verdict (verdict (file_tests f s)) (verdict (file_tests f s')) same_verdict
     where
       by_verdict : (v v' : Verdict) → plain v ≡ plain v' → Alike (decoded_by v (survey_of f s)) (decoded_by v' (survey_of f s'))
-      by_verdict (Ok tt) (Ok tt) e = (refl, same_survey)
+      by_verdict (Ok _) (Ok _) e = (refl, same_survey)
       by_verdict (Err r) (Err r') e = (e, refl)
       by_verdict (Ok tt) (Err r') e = absurd (refused_not_passed (plain_refusal r') (sym e))
       by_verdict (Err r) (Ok tt) e = absurd (refused_not_passed (plain_refusal r) e)

@@ -8,7 +8,7 @@ use borrow.Author.Tests.{leb-false, lt-leb, le-leb, leb-true}
 use Rattle.laws.specs.Exactly.{Exactly}
 use Rattle.laws.specs.Order.{pick}
 use Rattle.laws.specs.BoolLaws.{true_not_false}
-use Rattle.refusal.specs.Test.{Test, refusal_of, verdict, verdict_in}
+use Rattle.refusal.specs.Test.{Test, refusal_of, verdict, Verdict, verdict_in}
 use Rattle.refusal.specs.TestLaws.{near_difference, refused_not_passed}
 use Rattle.refusal.specs.EachLaws.{first_refused}
 use Rattle.refusal.specs.declared.Refusal.{Refusal}
@@ -71,7 +71,7 @@ too_long (suc (suc zero)) d l known = record { only_when = λ h. (refl, leb-fals
 too_long (suc (suc (suc n))) d l known = absurd (omega (arith, leb-true (suc (suc (suc n))) 2 known))
 
 -- of the last test
-refused_last : (b : Bool) (r : Refusal) → pick b (Ok tt) (Err r) ≡ Err r → b ≡ false
+refused_last : (b : Bool) (r : Refusal) → ◌≡◌ {A = Verdict} (pick b (Ok tt) (Err r)) (Err r) → b ≡ false
 refused_last true r e = absurd (refused_not_passed r (sym e))
 refused_last false r e = refl
 
