@@ -21,7 +21,10 @@ pub fn words_about(about: About) -> Words
     ensures length_lt_words_size { result.length < words_size }
 {
     let mut text = [0u8; 256];
-    let mut w = Writer { out: &mut text, at: 0 };
+    let mut w = Writer {
+        out: &mut text,
+        at: 0,
+    };
     put_words(&mut w, about);
     Words {
         length: w.at as u32,

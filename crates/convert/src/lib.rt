@@ -27,7 +27,10 @@ fn written(survey: &[u8]) -> Converted
     ensures { result ≡ written survey.now }
 {
     let mut file = [0u8; MOST_BYTES];
-    let mut w = Writer { out: &mut file, at: 0 };
+    let mut w = Writer {
+        out: &mut file,
+        at: 0,
+    };
     put_rewritten(&mut w, survey);
     let length = w.at;
     Converted { length, file }
