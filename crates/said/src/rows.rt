@@ -24,7 +24,7 @@ pub struct Rows<'a> {
 
 impl Rows<'_> {
     // The lines of the rows, behind what stands there.
-    #[tactic(auto, using(text::specs::Wrote::wrote_nothing), unfolding(crate::specs::Said::rows_text))]
+    #[tactic(auto, using(text::specs::WroteLaws::wrote_nothing), unfolding(crate::specs::Said::rows_text))]
     fn put_rows(self, w: &mut Writer)
         requires { AllThere self }
         ensures put { Wrote (rows_text self.entry.dh self.entry.step self.entry.cells.now (length self.entry.cells.now)) w.old w.new }

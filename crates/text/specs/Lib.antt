@@ -3,6 +3,7 @@ pub mod Ascii
 pub mod Put
 pub mod PutLaws
 pub mod Wrote
+pub mod WroteLaws
 pub mod Digits
 pub mod DigitsLaws
 pub mod Grouped

@@ -4,7 +4,7 @@ use Rattle.std.proofs.lemmas.List.{length-replicate}
 use Rattle.rewrite.specs.Rewritten.{rewritten, most_bytes}
 use Rattle.text.specs.Put.{Put}
 use Rattle.text.specs.PutLaws.{put_fits}
-use Rattle.text.specs.Wrote.{wrote_left}
+use Rattle.text.specs.WroteLaws.{wrote_left}
 use Rattle.convert.specs.declared.Converted.{Converted}
 use Rattle.convert.specs.Converted.{written}
 use Rattle.convert.proofs.written.Goals as goal

@@ -1,6 +1,6 @@
 -- `lines::row_line` meets its contract: its pieces are put one after another. Assumes nothing.
 use Rattle.lines.specs.Lines.{row_line}
-use Rattle.text.specs.Wrote.{wrote_both}
+use Rattle.text.specs.WroteLaws.{wrote_both}
 use Rattle.lines.proofs.row_line.Goals as goal
 
 pub returns-clause-put : goal.returns-clause-put

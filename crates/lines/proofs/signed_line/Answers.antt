@@ -1,7 +1,7 @@
 -- `lines::signed_line` meets its contract: its pieces are put one after another. Assumes nothing.
 use Rattle.std.proofs.Common.{to_z-of_z}
 use Rattle.lines.specs.Lines.{signed_line}
-use Rattle.text.specs.Wrote.{wrote_both}
+use Rattle.text.specs.WroteLaws.{wrote_both}
 use Rattle.lines.proofs.signed_line.Goals as goal
 
 pub returns-clause-put : goal.returns-clause-put

@@ -1,5 +1,5 @@
 -- `sentences::put_words_line` meets its contract: the words and the line end. Assumes nothing.
-use Rattle.text.specs.Wrote.{wrote_both}
+use Rattle.text.specs.WroteLaws.{wrote_both}
 use Rattle.sentences.specs.Sentences.{words_line}
 use Rattle.sentences.proofs.put_words_line.Goals as goal
 

@@ -1,5 +1,5 @@
 -- `rewrite::put::put_section` meets its contract: one number after the other. Assumes nothing.
-use Rattle.text.specs.Wrote.{wrote_both}
+use Rattle.text.specs.WroteLaws.{wrote_both}
 use Rattle.rewrite.proofs.put.put_section.Goals as goal
 
 pub returns : goal.returns

@@ -1,6 +1,6 @@
 -- `rewrite::rewritten::put_header` meets its contract: what stands before the sections' words, and these. Assumes nothing.
 use Rattle.std.proofs.Common.{arith, sym, length-take-le}
-use Rattle.text.specs.Wrote.{wrote_both}
+use Rattle.text.specs.WroteLaws.{wrote_both}
 use Rattle.file.specs.Layout.{courses_at}
 use Rattle.rewrite.proofs.rewritten.put_header.Goals as goal
 

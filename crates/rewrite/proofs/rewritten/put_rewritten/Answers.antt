@@ -1,6 +1,6 @@
 -- `rewrite::rewritten::put_rewritten` meets its contract: the header and the sections, with the sections of the old format. Assumes nothing.
 use Rattle.std.proofs.Common.{ℕ, ◌≡◌, ◌∙◌, ap, List, ◌++◌}
-use Rattle.text.specs.Wrote.{wrote_both}
+use Rattle.text.specs.WroteLaws.{wrote_both}
 use Rattle.file.specs.declared.format.Format.{Format}
 use Rattle.file.specs.declared.section.Section.{Section}
 use Rattle.file.specs.Format.{format48}

@@ -1,6 +1,6 @@
 -- `rewrite::rewritten::put_sections` meets its contract: one section behind the other, and the zeros. Assumes nothing.
 use Rattle.std.proofs.Common.{ap}
-use Rattle.text.specs.Wrote.{wrote_both}
+use Rattle.text.specs.WroteLaws.{wrote_both}
 use Rattle.rewrite.proofs.rewritten.put_sections.Goals as goal
 
 pub returns : goal.returns

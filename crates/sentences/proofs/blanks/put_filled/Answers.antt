@@ -1,6 +1,6 @@
 -- Nothing is put at first, and a turn puts a byte more, filled in.
 use Rattle.std.proofs.Common.{arith, ◌<◌, add-one, length, take-suc}
-use Rattle.text.specs.Wrote.{wrote_nothing, wrote_both}
+use Rattle.text.specs.WroteLaws.{wrote_nothing, wrote_both}
 use Rattle.sentences.proofs.Lines.{filled_none, filled_next}
 use Rattle.sentences.proofs.blanks.put_filled.Goals as goal
 

@@ -1,6 +1,6 @@
 -- `sentences::blanks::put_signed` meets its contract: its pieces are put one after another. Assumes nothing.
 use Rattle.std.proofs.Common.{to_z-of_z}
-use Rattle.text.specs.Wrote.{wrote_both}
+use Rattle.text.specs.WroteLaws.{wrote_both}
 use Rattle.sentences.proofs.blanks.put_signed.Goals as goal
 
 pub returns-then-as_hundredths : goal.returns-then-as_hundredths

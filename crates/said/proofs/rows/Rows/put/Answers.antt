@@ -1,7 +1,7 @@
 -- `said::rows::Rows::put` meets its contract: the rows stand behind the line of their count. Assumes nothing.
 use Rattle.std.proofs.Common.{arith, rules, length-append}
 use Rattle.text.specs.PutLaws.{says}
-use Rattle.text.specs.Wrote.{wrote_both, wrote_left}
+use Rattle.text.specs.WroteLaws.{wrote_both, wrote_left}
 use Rattle.said.proofs.rows.Rows.put.Goals as goal
 
 pub returns-clause-says : goal.returns-clause-says

@@ -1,6 +1,6 @@
 -- `said::rows::Rows::put_rows` meets its contract: a turn puts the line of one row more. Assumes nothing.
 use Rattle.std.proofs.Common.{arith, add-one, length-append}
-use Rattle.text.specs.Wrote.{wrote_both}
+use Rattle.text.specs.WroteLaws.{wrote_both}
 use Rattle.said.specs.Said.{rows_text}
 use Rattle.said.proofs.rows.Rows.put_rows.Goals as goal
 

@@ -1,6 +1,6 @@
 -- `text::put::Writer::in_threes` meets its contract: what stands before the last comma, the comma and three digits. Assumes nothing.
 use Rattle.std.proofs.Common.{arith, inl, inr}
-use Rattle.text.specs.Wrote.{wrote_both}
+use Rattle.text.specs.WroteLaws.{wrote_both}
 use Rattle.text.specs.GroupedLaws.{in_threes_none, in_threes_below, in_threes_more}
 use Rattle.text.proofs.put.Writer.+in_threes.Goals as goal
 

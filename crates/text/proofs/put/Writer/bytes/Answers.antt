@@ -1,6 +1,6 @@
 -- One more byte is put: the bytes up to it, and it behind them.
 use Rattle.std.proofs.Common.{arith, ◌<◌, add-one, length, take-suc}
-use Rattle.text.specs.Wrote.{wrote_both}
+use Rattle.text.specs.WroteLaws.{wrote_both}
 use Rattle.text.proofs.put.Writer.bytes.Goals as goal
 
 pub loop-b-preserved : goal.loop-b-preserved

@@ -1,6 +1,6 @@
 -- `text::put::Writer::hundredths` meets its contract: the whole part, then the decimals. Assumes nothing.
 use Rattle.text.specs.Digits.{hundredths}
-use Rattle.text.specs.Wrote.{wrote_both}
+use Rattle.text.specs.WroteLaws.{wrote_both}
 use Rattle.text.proofs.put.Writer.hundredths.Goals as goal
 
 pub returns : goal.returns

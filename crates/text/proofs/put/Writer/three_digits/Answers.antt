@@ -1,5 +1,5 @@
 -- `text::put::Writer::three_digits` meets its contract: one digit after another. Assumes nothing.
-use Rattle.text.specs.Wrote.{wrote_both}
+use Rattle.text.specs.WroteLaws.{wrote_both}
 use Rattle.text.proofs.put.Writer.three_digits.Goals as goal
 
 pub returns : goal.returns

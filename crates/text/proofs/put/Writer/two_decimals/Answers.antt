@@ -1,5 +1,5 @@
 -- `text::put::Writer::two_decimals` meets its contract: the point and the two digits, one after another. Assumes nothing.
-use Rattle.text.specs.Wrote.{wrote_both}
+use Rattle.text.specs.WroteLaws.{wrote_both}
 use Rattle.text.proofs.put.Writer.two_decimals.Goals as goal
 
 pub returns : goal.returns
