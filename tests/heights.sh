@@ -25,7 +25,7 @@ near() {
 # `measure`, which has the type and its conversion, makes none.
 makers() {
     local crate found before=none
-    found=" $(grep -rlE '\bDipHeight[ >]*::|\b(into|Into)\b|\bFrom(::|<u32>)|\bResult<.*\bDipHeight>' crates --exclude-dir=measure | cut -d/ -f2 | sort -u | paste -sd' ') "
+    found=" $(grep -rlE '\bDipHeight[ >]*::|\b(try_)?into\b|\b(Try)?Into\b|\b(Try)?From::|\bFrom<u32>|: *TryFrom<|<_>::|\bResult<.*\bDipHeight>' crates --exclude-dir=measure | cut -d/ -f2 | sort -u | paste -sd' ') "
     while [ "$found" != "$before" ]; do
         before=$found
         for crate in $(crates); do
@@ -90,6 +90,10 @@ add() { echo "$2" >>"$1"; }
 broken "rule 1" add crates/tank/src/filling.rt 'fn back(n: u32) -> DipHeight { DipHeight::from(n) }'
 broken "rule 1" add crates/tank/src/filling.rt 'fn back(n: u32) -> DipHeight { n.into() }'
 broken "rule 1" add crates/tank/src/filling.rt 'fn back(n: u32) -> DipHeight { From::from(n) }'
+broken "rule 1" add crates/tank/src/filling.rt 'fn back(n: u32) -> DipHeight { <_>::from(n) }'
+broken "rule 1" add crates/tank/src/filling.rt 'fn back(n: u32) -> DipHeight { n.try_into().unwrap() }'
+broken "rule 1" add crates/tank/src/filling.rt 'fn back(n: u32) -> DipHeight { TryFrom::try_from(n).unwrap() }'
+broken "rule 1" add crates/tank/src/filling.rt 'fn back<T: TryFrom<u32>>(n: u32) -> Option<T> { T::try_from(n).ok() }'
 broken "rule 1" add crates/tank/src/filling.rt 'fn back<T: From<u32>>(n: u32) -> T { T::from(n) }'
 broken "rule 1" add crates/tank/src/filling.rt 'fn back(n: u32) -> Result<u32, DipHeight> { Err(n)? }'
 broken "rule 1" sed -i 's/^tank: /&schedule /' crates.txt

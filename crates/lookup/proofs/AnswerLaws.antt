@@ -58,24 +58,24 @@ module _ (dh step : ℕ) (table : List ℕ) where
       (λ h. (h.0, leb-false x limit h.1))
       (λ h. (h.0, lt-leb x limit h.1))
 
-  -- of answers made of a verdict, told apart by the number of their refusal
-  pub refused_above : {A : Type 0} (by : Verdict → Result A Refusal) → refusal_number (by (Ok tt)) ≡ 0 → ((r : Refusal) → refusal_number (by (Err r)) ≡ r.number)
+  -- of answers made of a verdict, told apart by the number of their refusal, 0 for none
+  pub refused_above : {A : Type 0} (by : Verdict → A) (number_of : A → ℕ) → number_of (by (Ok tt)) ≡ 0 → ((r : Refusal) → number_of (by (Err r)) ≡ r.number)
       → (number : ℕ) (what : About) (x limit : ℕ) → 11 < number
       → Exactly (by (verdict (up_to number what x limit)) ≡ by (Err (refusal number 0 what))) ((sound_table dh step table ≡ true) × (limit < x))
-  refused_above by none its number what x limit other =
+  refused_above by number_of none its number what x limit other =
       above_limit (λ v. by v ≡ by (Err (refusal number 0 what))) number what x limit
-      (λ e. absurd (omega (arith, ap refusal_number e, none, its (refusal number 0 what))))
-      (λ e. absurd (omega (arith, ap refusal_number e, its (refusal 11 0 (unsound dh step)), its (refusal number 0 what))))
+      (λ e. absurd (omega (arith, ap number_of e, none, its (refusal number 0 what))))
+      (λ e. absurd (omega (arith, ap number_of e, its (refusal 11 0 (unsound dh step)), its (refusal number 0 what))))
       refl
 
   pub refused_too_high : (h : ℕ) → Exactly (litres_answer dh step table h ≡ Err (refusal 12 0 (too_high h dh))) (TooHigh dh step table h)
   unfolding litres_answer
-  refused_too_high h = refused_above (λ v. litres_by v (litres dh step table h)) refl (λ r. refl) 12 _ h dh (omega arith)
+  refused_too_high h = refused_above (λ v. litres_by v (litres dh step table h)) refusal_number refl (λ r. refl) 12 _ h dh (omega arith)
 
   pub refused_too_much : (w : ℕ)
       → Exactly (height_answer dh step table w ≡ Err (refusal 13 0 (too_much w (last_row dh step table)))) (TooMuch dh step table w)
   unfolding height_answer
-  refused_too_much w = refused_above (λ v. height_by v (height_for dh step table w)) refl (λ r. refl) 13 _ w _ (omega arith)
+  refused_too_much w = refused_above (λ v. height_by v (height_for dh step table w)) refusal_number refl (λ r. refl) 13 _ w _ (omega arith)
 
   -- so the answer alone tells all that a lookup promises
   pub litres_told : (h : ℕ) {r : LitresAnswer} → r ≡ litres_answer dh step table h

@@ -10,13 +10,14 @@ use Rattle.laws.specs.Exactly.{Exactly}
 use Rattle.laws.proofs.HalfLaws.{difference_up}
 use Rattle.laws.proofs.SignedLaws.{minus}
 use Rattle.measure.specs.Quantity.{volume_units}
+use Rattle.refusal.specs.declared.Refusal.{Refusal}
 use Rattle.refusal.specs.Test.{refusal, verdict, Verdict}
 use Rattle.lookup.specs.Table.{sound_table}
 use Rattle.lookup.specs.TableLaws.{sound}
 use Rattle.lookup.specs.Litres.{litres}
 use Rattle.lookup.proofs.LitresLaws.{litres_mono, never_falls_only}
 use Rattle.lookup.specs.Answer.{too_high, litres_answer, ReadOff, TooHigh, LitresAnswer}
-use Rattle.lookup.proofs.AnswerLaws.{up_to, read_off, refused_above}
+use Rattle.lookup.proofs.AnswerLaws.{up_to, read_off, refusal_number, refused_above}
 use Rattle.lookup.specs.Delivered.{delivered_by, delivered_answer, ReadOffBoth, higher, DeliveredAnswer}
 
 -- ---- the two tests as one: of the higher height, about the first that is above DH
@@ -24,6 +25,12 @@ use Rattle.lookup.specs.Delivered.{delivered_by, delivered_answer, ReadOffBoth, 
 abbrev difference_by : Verdict → ℤ → DeliveredAnswer
 difference_by (Ok tt) d = Ok d
 difference_by (Err r) d = Err r
+
+same_litres : {y z : ℤ} → ◌≡◌ {A = DeliveredAnswer} (Ok y) (Ok z) → y ≡ z
+same_litres e = cc
+
+not_litres : {r : Refusal} {d : ℤ} → ◌≡◌ {A = DeliveredAnswer} (Err r) (Ok d) → ⊥
+not_litres e = cc
 
 -- ---- differences
 
@@ -134,7 +141,7 @@ module _ (dh step : ℕ) (table : List ℕ) where
       (TooHigh dh step table (max before after))
   refused_either before after =
       rw (by_higher before after)
-      (refused_above dh step table (λ v. difference_by v (gain before after)) refl (λ r. refl) 12 _ (max before after) dh (omega arith))
+      (refused_above dh step table (λ v. difference_by v (gain before after)) refusal_number refl (λ r. refl) 12 _ (max before after) dh (omega arith))
 
   -- so the answer alone tells all that a lookup promises
   pub delivered_told : (before after : ℕ) {r : DeliveredAnswer} → r ≡ delivered_answer dh step table before after
