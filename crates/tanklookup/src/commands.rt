@@ -1,5 +1,5 @@
 // What can be asked of a table, and the line that is said to each figure.
-ghost use Rattle.std.specs.Prelude.{◌<◌};
+ghost use Rattle.std.specs.Prelude.{◌<◌, ◌≤◌, IsNone};
 
 use arguments::{are_figures, figure_at, is_word, write_said};
 use refusal::Refusal;
@@ -30,7 +30,9 @@ fn command_at(rt: &HostRuntime, i: usize) -> Option<Command> {
 }
 
 // The command that stands before these arguments, if they are figures as it takes them: delivered takes two, the others any number but none.
-pub fn asked(rt: &HostRuntime, command: usize, figures: Range<usize>) -> Option<Command> {
+pub fn asked(rt: &HostRuntime, command: usize, figures: Range<usize>) -> Option<Command>
+    ensures { figures.end ≤ figures.start → IsNone result }
+{
     let command = command_at(rt, command)?;
     let right = match command {
         Command::Delivered => figures.len() == 2,
