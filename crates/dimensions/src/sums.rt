@@ -40,6 +40,7 @@ fn sum_of(s: &[u8], at: usize, rise: u64) -> Sums
     }
 }
 
+// `SumsSmall` is no invariant of the type: it would not stay so under this sum. That the courses are at most forty is known of the file, and not here.
 fn add(t: Sums, u: Sums) -> Sums
     requires { SumsSmall t × SumsSmall u }
     ensures { result ≡ added t u }
@@ -53,6 +54,7 @@ fn add(t: Sums, u: Sums) -> Sums
 }
 
 // Over all courses of a file that passes refusals 1 to 5.
+// `NumbersFit` is of a format and of bytes: a clause, as `file::section::courses` says.
 pub(crate) fn file_sums(f: Format, s: &[u8]) -> Sums
     requires { NumbersFit f s.now }
     ensures value { result ≡ sums_of f s.now }

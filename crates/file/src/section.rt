@@ -48,7 +48,8 @@ impl Section {
     }
 }
 
-// A section of records of a size, whose count and byte offset stand at a byte of the header.
+// A section of records of a size, whose count and byte offset stand at a byte of the header. The three sections share this much: one function over
+// `Records` would have the bodies of `courses`, `deadwood` and `seams` as its arms.
 fn section_at(records: Records, at: usize, size: usize, s: &[u8]) -> Section
     requires { (at + 8 ≤ length s.now) × (size ≤ longest_record) }
     ensures { result ≡ section_at records at size s.now }
@@ -61,6 +62,8 @@ fn section_at(records: Records, at: usize, size: usize, s: &[u8]) -> Section
     }
 }
 
+// A format and a file's bytes go side by side, and what is known of both is a clause, here and in the rooms above: a struct of both would hold a
+// borrow, and each clause would have to tell the struct's moment from that of the bytes.
 pub fn courses(f: Format, s: &[u8]) -> Section
     requires { f.header ≤ length s.now }
     ensures { result ≡ courses f s.now }

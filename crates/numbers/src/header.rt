@@ -17,6 +17,7 @@ use sentences::OF_HEADER;
 use tank::limits::{LONGEST_FLANGE, LONGEST_SHELL};
 
 // The test of the header's number at a byte.
+// That the bytes hold a header is a clause and no type, as `file::section::courses` says.
 fn header_limit(s: &[u8], at: usize, low: u32, high: u32) -> Result<(), Refusal>
     requires { (header_end ≤ length s.now) × (at + 4 ≤ header_end) }
     ensures { result ≡ verdict (header_limit s.now at low high ∷ []) }

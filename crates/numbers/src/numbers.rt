@@ -27,6 +27,7 @@ fn section_tested(section: Section, s: &[u8]) -> Result<(), Refusal>
 }
 
 // .. of all sections of a file.
+// `Placed` is of a format and of bytes, once refusals 1 to 3 were tested: a clause, as `file::section::courses` says.
 #[tactic(auto, using(refusal::specs::TestLaws::verdict_append))]
 fn records_tested(f: Format, s: &[u8]) -> Result<(), Refusal>
     requires { Placed f s.now }

@@ -18,6 +18,7 @@ use seams::seam::{MOST_SEAMS, THICKEST_SEAM, WIDEST_SEAM};
 use tank::limits::LONGEST_SHELL;
 
 // The numbers of a course.
+// `Whole` is of a record and of the bytes that it lies in, which a `Record` does not hold: a clause.
 #[tactic(auto, unfolding(crate::specs::Tests::course_tests))]
 fn course_tested(s: &[u8], x: Record) -> Result<(), Refusal>
     requires { Whole s.now x course_end }

@@ -14,6 +14,7 @@ use seams::rise::tape_rise;
 use seams::seam::Seam;
 
 // The seams of course i.
+// `LimitsFit` is of a format and of bytes, once the numbers in them were tested: a clause, as `file::section::courses` says.
 #[tactic(auto, using(numbers::specs::FitLaws::seam_from_fits))]
 fn seam_of(f: Format, s: &[u8], i: usize) -> Seam
     requires { LimitsFit f s.now }
