@@ -14,7 +14,8 @@ pub const MOST_ITEMS: usize = 64;
 // In v, of either sign.
 pub const LARGEST_VOLUME: i64 = 10_000_000;
 
-// A fitting: nothing of it at or below its low height, all of it at or above its high height. Positive volume takes room away.
+// A fitting: nothing of it at or below its low height, all of it at or above its high height. Positive volume takes room away. The limits are no
+// invariant of the type: an item is read before it is judged, and its refusal names the number that does not fit.
 #[derive(Clone, Copy)]
 pub struct Deadwood {
     pub low: DipHeight,

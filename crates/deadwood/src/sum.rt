@@ -7,6 +7,7 @@ ghost use Rattle.deadwood.specs.ListLaws.{DeadwoodLimits};
 use crate::item::Deadwood;
 use measure::dip_height::DipHeight;
 
+// The limits are a clause, since an item has them only once it was judged.
 pub fn sum_of_shares(items: &[Deadwood], h: DipHeight) -> i64
     requires { DeadwoodLimits items.now }
     ensures { result ≡ shares_of items.now (dip_units h) }

@@ -12,6 +12,7 @@ impl Diameter {
     pub const LARGEST: u32 = 500_000;
 
     // The diameter of so many u, none outside the limits. The limits are those of the definition.
+    // An `Option` and no `TryFrom`: an error would have nothing to say but the number, which the caller has.
     pub fn of(units: u64) -> Option<Diameter>
         ensures value { result ≡ measured units }
         ensures smallest_value { Diameter.SMALLEST ≡ smallest }

@@ -10,6 +10,7 @@ use crate::limits::is_within;
 pub mod limits;
 
 // What a test is about: the sentence that says it, and the numbers that the sentence names.
+// The same numbers whatever the sentence: its blanks say which of them are read, and one function fills in all (`sentences`).
 #[derive(Clone, Copy)]
 pub struct About {
     pub sentence: u32,
@@ -21,6 +22,7 @@ pub struct About {
     pub high: i64,
 }
 
+// Number and place are the paper's, and no enum: theorems speak of any number (`never_10` of `answers`), and C is handed both as they are.
 #[derive(Clone, Copy)]
 pub struct Refusal {
     pub number: u32,
