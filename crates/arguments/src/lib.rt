@@ -17,6 +17,7 @@ use survey::decode::LARGEST_FILE;
 pub const SURVEY_ROOM: usize = LARGEST_FILE + 1;
 
 // A program's own words, arguments `first` up to `end`, behind its name and `-f FILE`; and the argument that names the survey's file, if one does.
+// Two numbers and no `Range`, which is not copied: a program hands its words on more than once.
 #[derive(Clone, Copy)]
 pub struct Own {
     pub file: Option<usize>,
@@ -96,6 +97,7 @@ pub fn read_survey(rt: &HostRuntime, own: Own, buf: &mut [u8]) -> Moved
 }
 
 // What is said, to standard output and then to standard error. Answers what came of the first.
+// Two texts, since each goes to a stream of its own.
 pub fn write_said(rt: &HostRuntime, out: &[u8], err: &[u8]) -> Moved
     ensures { Written (length out.now) result }
 {

@@ -15,7 +15,7 @@ use survey::decode::decode_48;
 use table::judge::judged;
 use text::put::Writer;
 
-// The file is the first `length` bytes, and behind them stands 0.
+// The file is the first `length` bytes, and behind them stands 0. Nothing is allocated, so there is room for the longest, with a length beside it.
 #[derive(Clone, Copy)]
 pub struct Converted {
     pub length: usize,

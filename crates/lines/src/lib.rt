@@ -1,4 +1,5 @@
 // The lines that the programs print, each with its line end, put into lent memory; and how long a line can be.
+// Each is another sequence of the writer's pieces; one function over all would be handed that sequence, which is the line.
 #![tactic(auto, using(crate::specs::SizeLaws::line_sizes))]
 
 ghost use Rattle.std.specs.Prelude.{◌≤◌, length};

@@ -1,5 +1,6 @@
 // A lookup on the table of a survey file: its answer, or the refusal of the file or of what was asked for. A memory of said's LINE_SIZE and
 // one of its ERR_SIZE bytes have room for all that is said.
+// Three functions, since each asks another question and promises another text; what they share is `answered`.
 ghost use Rattle.survey_lookup.specs.Answer.{litres_in, height_in, delivered_in};
 ghost use Rattle.lines.specs.Lines.{line_size};
 ghost use Rattle.said.specs.Said.{Told, litres_text, litres_words, height_text, height_words, delivered_text, delivered_words};

@@ -11,6 +11,7 @@ pub fn argument<E: Env>(env: &E, i: usize, buf: &mut [u8]) -> usize
 }
 
 // How many there are, with the program's own name.
+// Nothing is ensured: `Env` promises nothing of how many there are, and any number may be right.
 pub fn argument_count<E: Env>(env: &E) -> usize {
     (0..usize::MAX)
         .find(|i| matches!(env.arg(*i, &mut []), Err(FillError::NotPresent)))

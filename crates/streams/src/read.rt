@@ -10,6 +10,8 @@ use std::time::Clock;
 
 // Reads until buf is full or the input ends: then it is whole. It is not where a read failed; what was read before that is counted all the
 // same. The bytes that were read are the first `count` of buf.
+// Read and write each in its own loop: this one fills lent room and ends well at 0, where the other fails. Not `for`: a step is as long as what the
+// call moved.
 pub fn read_whole<R: Read>(clock: &impl Clock, from: &mut R, buf: &mut [u8]) -> Moved
     ensures prefix_len { IsPrefixLen result.count buf.new }
     ensures buf_len_unchanged { length buf.new ≡ length buf.old }

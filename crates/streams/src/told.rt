@@ -16,6 +16,7 @@ use std::{io, str};
 const PATH_MAX: usize = 4096;
 
 // The system's numbers for a name that is too long, for an argument that is not there, and for bytes that are no text.
+// Not std's `ErrorKind`: that is told in std's own words, and a number in the system's.
 const NAME_TOO_LONG: i32 = 36;
 
 const INVALID_ARGUMENT: i32 = 22;

@@ -9,6 +9,7 @@ use std::io::{ErrorKind, Write};
 use std::time::Clock;
 
 // Writes all of bytes, or stops at the first write that fails. One that takes nothing failed too.
+// Not `for`, as in `read_whole`: a step is as long as what the call moved.
 pub fn write_whole<W: Write>(clock: &impl Clock, to: &mut W, bytes: &[u8]) -> Moved
     ensures { Written (length bytes.now) result }
 {

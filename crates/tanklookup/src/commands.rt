@@ -54,6 +54,7 @@ fn tell(rt: &HostRuntime, command: Command, t: Result<Tabled, Refusal>, i: usize
     let mut out = [0u8; LINE_SIZE];
     let mut err = [0u8; ERR_SIZE];
     let asked = hundredths_at(rt, i);
+    // One match, and no function that is handed on: delivered takes a figure more than the others.
     let said = match command {
         Command::Litres => litres_said(t, asked, &mut out, &mut err),
         Command::Height => height_said(t, asked, &mut out, &mut err),

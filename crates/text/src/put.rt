@@ -44,6 +44,7 @@ impl Writer<'_> {
         self.byte(b'0' + (n % 10) as u8);
     }
 
+    // Not by `write!`: std tells what stands there only where all of it had room, and here it is told in either case.
     #[tactic(auto, using(crate::specs::DigitsLaws::digits_one))]
     pub fn digits(&mut self, n: u64)
         ensures { Wrote (digits n) self.old self.new }
