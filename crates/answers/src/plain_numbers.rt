@@ -11,6 +11,7 @@ use refusal::Refusal;
 use rewrite::rewritten::MOST_BYTES;
 use table::make::{Made, NumberedRefusal};
 
+// C has no `Result`, no diameter and no volume: these structs are those of include/milechime.h, field by field.
 #[repr(C)]
 #[derive(Clone, Copy)]
 pub struct TableNumbers {
@@ -38,6 +39,7 @@ pub struct HeightNumbers {
 }
 
 // A converted file: the first `length` bytes; behind them stands 0.
+// C gets it by value and nothing is allocated, so there is room for the longest, with a length beside it.
 #[repr(C)]
 #[derive(Clone, Copy)]
 pub struct ConvertedNumbers {
@@ -68,6 +70,7 @@ pub fn table_numbers(answer: Result<Made, NumberedRefusal>) -> TableNumbers
     }
 }
 
+// Apart from `height_numbers`, since C has a struct for each, whose figure has a name of its own.
 pub fn litres_numbers(answer: Result<Volume, Refusal>) -> LitresNumbers
     ensures { result ≡ litres_numbers answer }
 {

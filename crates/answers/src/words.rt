@@ -8,6 +8,7 @@ use sentences::put_words;
 use text::put::Writer;
 
 // The words of a refusal: the first `length` bytes of the text; behind them it is 0, and at least one byte is.
+// The struct is that of include/milechime.h: C gets it by value and nothing is allocated, so the text has room for the longest.
 #[repr(C)]
 #[derive(Clone, Copy)]
 pub struct Words {

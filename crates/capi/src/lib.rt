@@ -1,6 +1,7 @@
 // The calls that C programs make (`capi_c` exports them), under names that begin with milechime_: the table of a survey, both lookups, an old survey in today's format,
 // and a refusal in words, on numbers and slices alone. A slice is a pointer and a length to C. Nothing is asked of a caller but that these are
 // what they say.
+// A function for each of C's calls, also where two are alike: C calls by name and knows no type parameters. It may hand in any DH and step, 0 too.
 #![tactic(auto)]
 
 ghost use Rattle.std.specs.Prelude.{◌≡◌, ◌≤◌, ◌<◌, length};

@@ -1,5 +1,6 @@
 // The calls of `capi` under C's names and by C's calling convention: the static library behind include/milechime.h. Each promises what the call of
 // that name there promises.
+// No other crate can list a static library, so each call is here and in `capi`, where Rattle can call it.
 #![tactic(auto)]
 
 ghost use Rattle.std.specs.Prelude.{◌≡◌, ◌≤◌, ◌<◌, length};
