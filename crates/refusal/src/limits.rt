@@ -6,15 +6,12 @@ ghost use Rattle.refusal.specs.Test.{within, near};
 pub fn is_within(low: u64, x: u64, high: u64) -> bool
     ensures { result ≡ within low x high }
 {
-    low <= x && x <= high
+    (low..=high).contains(&x)
 }
 
 // Whether two numbers differ by no more than so much, either way.
 pub fn is_near(x: u64, y: u64, most: u64) -> bool
     ensures { result ≡ near x y most }
 {
-    if x <= y {
-        return y - x <= most;
-    }
-    x - y <= most
+    x.abs_diff(y) <= most
 }
