@@ -2,7 +2,7 @@
 #![tactic(auto)]
 
 mod bounds;
-mod dome;
+pub mod dome;
 mod face;
 mod level;
 pub mod walk;

@@ -7,6 +7,7 @@ ghost use Rattle.file.specs.Format.{format48};
 ghost use Rattle.file.specs.Section.{deadwood};
 ghost use Rattle.form.specs.PlacedLaws.{Placed};
 ghost use Rattle.records.specs.Item.{items_of};
+ghost use Rattle.tank.specs.TankLaws.{TankLimits};
 ghost use Rattle.survey.specs.Survey.{tank_of, filled_up, survey_with, decoded_as, decoded};
 ghost use Rattle.survey.specs.SurveyLaws.{WithinLimits};
 
@@ -53,7 +54,7 @@ fn items(f: Format, s: &[u8]) -> [Deadwood; MOST_ITEMS]
 
 // The tank of a file, with its diameters.
 fn tank_of(s: &[u8], found: Diameters) -> Tank
-    requires { (header_end ≤ length s.now) × (found.dh ≡ diameter (word s.now dh_at)) }
+    requires { (header_end ≤ length s.now) × (found.dh ≡ diameter (word s.now dh_at)) × TankLimits (tank_of s.now (diameter_units found.d1) (diameter_units found.d2)) }
     ensures { result ≡ tank_of s.now (diameter_units found.d1) (diameter_units found.d2) }
 {
     Tank {
@@ -69,7 +70,7 @@ fn tank_of(s: &[u8], found: Diameters) -> Tank
 
 // The survey of a file that is not refused, with its diameters.
 fn survey_of(f: Format, s: &[u8], found: Diameters) -> Survey
-    requires { Placed f s.now × (found.dh ≡ diameter (word s.now dh_at)) }
+    requires { Placed f s.now × (found.dh ≡ diameter (word s.now dh_at)) × TankLimits (tank_of s.now (diameter_units found.d1) (diameter_units found.d2)) }
     ensures { result ≡ survey_with f s.now (diameter_units found.d1) (diameter_units found.d2) }
 {
     Survey {

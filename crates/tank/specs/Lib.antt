@@ -1,6 +1,7 @@
--- A tank as a list of parts: what a part is and holds (Part), the tank's own parts (Tank, Limits), slabs of each (Slabs), and
+-- A tank as a list of parts: what a part is and holds (Part), a tank's sizes and its own parts (Sizes, Tank, Limits), slabs of each (Slabs), and
 -- condition 3 about them (Condition3). The other files are laws.
 pub mod Limits
+pub mod Sizes
 pub mod Part
 pub mod Tank
 pub mod Slabs

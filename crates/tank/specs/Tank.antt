@@ -4,7 +4,12 @@ use Rattle.std.specs.Prelude.{ℕ, ◌*◌, List, [], ◌∷◌, map}
 use Rattle.measure.specs.Quantity.{diameter_units}
 use Rattle.correction.specs.Correction.{corrected_height}
 use Rattle.tank.specs.declared.tank.Tank.{Tank}
+use Rattle.tank.specs.declared.tank.Tank.TheInside.{Inside}
 use Rattle.tank.specs.Part.{Part, cylinder, head_pair, Filled, gross}
+
+-- what is said of a tank: the sizes that its fields have
+abbrev pub sizes : Inside → Tank
+sizes t = record { kind = t.kind; dh = t.dh; d1 = t.d1; d2 = t.d2; l1 = t.l1; l2 = t.l2; l3 = t.l3 }
 
 -- shell (D1, L1), flanges (D2, twice L2), heads (D2, L3)
 unfoldable pub parts_of : Tank → List Part

@@ -12,8 +12,6 @@ use crate::tank::Tank;
 use circle::walk::Walk;
 use correction::shell_height::ShellHeight;
 use dome_walk::walk::DomeWalk;
-use heads::volume::heads_volume;
-use heads::walk::heads_on_to;
 use measure::dip_height::DipHeight;
 use measure::volume::Volume;
 
@@ -38,7 +36,7 @@ impl Filling {
 
     // On to a dip height that the filling has not passed.
     pub fn on_to(self, t: Tank, h: DipHeight) -> Filling
-        requires { TankLimits t × NotPast t (dip_units h) self }
+        requires { NotPast t (dip_units h) self }
         ensures { result ≡ filling_at t (dip_units h) }
     {
         let in_shell = ShellHeight::corrected(t.d1, t.dh, h);
@@ -46,19 +44,19 @@ impl Filling {
         Filling {
             shell: self.shell.on_to(t.d1, in_shell),
             flanges: self.flanges.on_to(t.d2, in_heads),
-            heads: heads_on_to(self.heads, t.kind, t.d2, t.l3, in_heads),
+            heads: t.heads().on_to(self.heads, in_heads),
         }
     }
 
     // The gross volume of a tank that is filled to a dip height.
     pub fn gross(self, t: Tank, h: DipHeight) -> Volume
-        requires { TankLimits t × (self ≡ filling_at t (dip_units h)) }
+        requires { self ≡ filling_at t (dip_units h) }
         ensures { result ≡ volume (gross_at t (dip_units h)) }
     {
         let in_heads = ShellHeight::corrected(t.d2, t.dh, h);
         let of_shell = cylinder_volume(self.shell.area(), t.l1 as u64);
         let of_flanges = cylinder_volume(self.flanges.area(), 2 * (t.l2 as u64));
-        let of_heads = heads_volume(self.heads, t.kind, t.d2, t.l3, in_heads);
+        let of_heads = t.heads().volume(self.heads, in_heads);
         of_shell.plus(of_flanges).plus(of_heads)
     }
 }

@@ -12,7 +12,7 @@ use Rattle.heads.specs.Volume.{heads_volume}
 use Rattle.tank.specs.declared.tank.Tank.{Tank}
 use Rattle.tank.specs.Limits.{longest_shell}
 use Rattle.tank.specs.Part.{cylinder_volume}
-use Rattle.tank.specs.Tank.{gross_at}
+use Rattle.tank.specs.Tank.{sizes, gross_at}
 use Rattle.tank.specs.CylinderLaws.{cylinder_product}
 use Rattle.tank.specs.TankLaws.{shell_at, heads_at, gross_by_parts, gross_small}
 use Rattle.tank.proofs.filling.Filling.gross.Goals as goal
@@ -40,42 +40,49 @@ together t h of_shell of_flanges there e f g =
 
 pub cylinder_volume-of_shell-requires : goal.cylinder_volume-of_shell-requires
 cylinder_volume-of_shell-requires c =
-    let t = c.args.t in
-    let limits = c.requires.0 in
-    product_fits (diameter_units t.d1) (shell_at t (dip_units c.args.h)) t.l1 (c.area.ensures ∙ ap (λ f. f.shell.area) c.requires.1) (corrected_at_most _ _ _) limits.d1_high limits.l1_high
+    let t = sizes c.t.inside in
+    let there = rw (← c.t.view_is) at c.requires in
+    let limits = c.t.invariant in
+    product_fits (diameter_units t.d1) (shell_at t (dip_units c.args.h)) t.l1 (c.area.ensures ∙ ap (λ f. f.shell.area) there) (corrected_at_most _ _ _) limits.d1_high limits.l1_high
 
 pub cylinder_volume-of_flanges-requires : goal.cylinder_volume-of_flanges-requires
 cylinder_volume-of_flanges-requires c =
-    let t = c.args.t in
-    let limits = c.requires.0 in
+    let t = sizes c.t.inside in
+    let there = rw (← c.t.view_is) at c.requires in
+    let limits = c.t.invariant in
     let flanges : 2 * t.l2 ≤ longest_shell = omega (arith, limits.l2_high) in
-    product_fits (diameter_units t.d2) (heads_at t (dip_units c.args.h)) (2 * t.l2) (c.area-2.ensures ∙ ap (λ f. f.flanges.area) c.requires.1) (corrected_at_most _ _ _) limits.d2_high flanges
+    product_fits (diameter_units t.d2) (heads_at t (dip_units c.args.h)) (2 * t.l2) (c.area-2.ensures ∙ ap (λ f. f.flanges.area) there) (corrected_at_most _ _ _) limits.d2_high flanges
 
-pub heads_volume-of_heads-requires-clause-limits : goal.heads_volume-of_heads-requires-clause-limits
-heads_volume-of_heads-requires-clause-limits c =
-    let limits = c.requires.0 in
-    rw c.corrected-in_heads.ensures (corrected_at_most _ _ _, omega (arith, limits.d2_low), limits.d2_high, limits.heads)
+pub volume-of_heads-requires-clause-inside : goal.volume-of_heads-requires-clause-inside
+volume-of_heads-requires-clause-inside c = rw (c.heads.ensures.1, c.corrected-in_heads.ensures, ← c.t.view_is) (corrected_at_most _ _ _)
 
 pub plus-requires : goal.plus-requires
 plus-requires c =
+    let t = sizes c.t.inside in
     let h = dip_units c.args.h in
+    let there = rw (← c.t.view_is) at c.requires in
     let all =
-    together c.args.t h (c.area.ensures ∙ ap (λ f. f.shell.area) c.requires.1) (c.area-2.ensures ∙ ap (λ f. f.flanges.area) c.requires.1)
-    c.corrected-in_heads.ensures c.cylinder_volume-of_shell.ensures c.cylinder_volume-of_flanges.ensures c.heads_volume-of_heads.ensures in
-    omega (arith, all, gross_small c.args.t h c.requires.0)
+    together t h (c.area.ensures ∙ ap (λ f. f.shell.area) there) (c.area-2.ensures ∙ ap (λ f. f.flanges.area) there)
+    c.corrected-in_heads.ensures c.cylinder_volume-of_shell.ensures c.cylinder_volume-of_flanges.ensures (rw (c.heads.ensures.0, c.heads.ensures.1, c.heads.ensures.2, ← c.t.view_is) at c.volume-of_heads.ensures) in
+    omega (arith, all, gross_small t h c.t.invariant)
 
 pub plus-requires-2 : goal.plus-requires-2
 plus-requires-2 c =
+    let t = sizes c.t.inside in
     let h = dip_units c.args.h in
+    let there = rw (← c.t.view_is) at c.requires in
     let all =
-    together c.args.t h (c.area.ensures ∙ ap (λ f. f.shell.area) c.requires.1) (c.area-2.ensures ∙ ap (λ f. f.flanges.area) c.requires.1)
-    c.corrected-in_heads.ensures c.cylinder_volume-of_shell.ensures c.cylinder_volume-of_flanges.ensures c.heads_volume-of_heads.ensures in
-    rw c.plus.ensures (omega (arith, all, gross_small c.args.t h c.requires.0))
+    together t h (c.area.ensures ∙ ap (λ f. f.shell.area) there) (c.area-2.ensures ∙ ap (λ f. f.flanges.area) there)
+    c.corrected-in_heads.ensures c.cylinder_volume-of_shell.ensures c.cylinder_volume-of_flanges.ensures (rw (c.heads.ensures.0, c.heads.ensures.1, c.heads.ensures.2, ← c.t.view_is) at c.volume-of_heads.ensures) in
+    rw c.plus.ensures (omega (arith, all, gross_small t h c.t.invariant))
 
 pub returns : goal.returns
 returns c =
-    let heads = c.heads_volume-of_heads.result in
+    let t = sizes c.t.inside in
+    let h = dip_units c.args.h in
+    let there = rw (← c.t.view_is) at c.requires in
+    let heads = c.volume-of_heads.result in
     let all =
-    together c.args.t (dip_units c.args.h) (c.area.ensures ∙ ap (λ f. f.shell.area) c.requires.1) (c.area-2.ensures ∙ ap (λ f. f.flanges.area) c.requires.1)
-    c.corrected-in_heads.ensures c.cylinder_volume-of_shell.ensures c.cylinder_volume-of_flanges.ensures c.heads_volume-of_heads.ensures in
-    c.plus-2.ensures ∙ ap volume (ap (λ x. volume_units x + volume_units heads) c.plus.ensures ∙ all)
+    together t h (c.area.ensures ∙ ap (λ f. f.shell.area) there) (c.area-2.ensures ∙ ap (λ f. f.flanges.area) there)
+    c.corrected-in_heads.ensures c.cylinder_volume-of_shell.ensures c.cylinder_volume-of_flanges.ensures (rw (c.heads.ensures.0, c.heads.ensures.1, c.heads.ensures.2, ← c.t.view_is) at c.volume-of_heads.ensures) in
+    rw (← c.t.view_is) (c.plus-2.ensures ∙ ap volume (ap (λ x. volume_units x + volume_units heads) c.plus.ensures ∙ all))

@@ -17,10 +17,14 @@ ready : (d dh dip : ℕ) {h : ShellHeight} {w : Walk} → h ≡ shell_height (co
 ready d dh dip e n high = rw e (n.stands, n.below, corrected_at_most d dh dip, omega arith)
 
 pub on_to-requires : goal.on_to-requires
-on_to-requires c = ready _ _ _ c.corrected-in_shell.ensures c.requires.1.shell c.requires.0.d1_high
+on_to-requires c =
+    let p = rw (← c.t.view_is) at c.requires in
+    ready _ _ _ c.corrected-in_shell.ensures p.shell c.t.invariant.d1_high
 
 pub on_to-requires-2 : goal.on_to-requires-2
-on_to-requires-2 c = ready _ _ _ c.corrected-in_heads.ensures c.requires.1.flanges c.requires.0.d2_high
+on_to-requires-2 c =
+    let p = rw (← c.t.view_is) at c.requires in
+    ready _ _ _ c.corrected-in_heads.ensures p.flanges c.t.invariant.d2_high
 
-pub heads_on_to-requires-clause-limits : goal.heads_on_to-requires-clause-limits
-heads_on_to-requires-clause-limits c = rw c.corrected-in_heads.ensures (corrected_at_most _ _ _, c.requires.0.d2_high, c.requires.0.heads)
+pub on_to-requires-3-clause-inside : goal.on_to-requires-3-clause-inside
+on_to-requires-3-clause-inside c = rw (c.heads.ensures.1, c.corrected-in_heads.ensures, ← c.t.view_is) (corrected_at_most _ _ _)
