@@ -46,26 +46,3 @@ impl Schedule {
         DipHeight::from(h as u32)
     }
 }
-
-// How many rows a table has: one at each multiple of the step up to DH, and one more at DH where that is none. The limits above are
-// those of the definition.
-#[tactic(auto, using(crate::specs::RowsLaws::count_even, crate::specs::RowsLaws::count_odd))]
-pub fn row_count(dh: u32, step: u32) -> usize
-    requires { 0 < step }
-    ensures value { result ≡ row_count dh step }
-    ensures smallest_step_value { SMALLEST_STEP ≡ smallest_step }
-    ensures largest_step_value { LARGEST_STEP ≡ largest_step }
-    ensures most_rows_value { MOST_ROWS ≡ most_rows }
-{
-    dh.div_ceil(step) as usize + 1
-}
-
-// The height of row i, which is below the row count.
-#[tactic(auto, using(crate::specs::RowsLaws::steps_at_most), unfolding(crate::specs::Rows::row_height))]
-pub fn row_height(dh: u32, step: u32, i: usize) -> DipHeight
-    requires { (0 < step) × (i < row_count dh step) }
-    ensures { result ≡ dip_height (row_height dh step i) }
-{
-    let h = (i * step as usize).min(dh as usize);
-    DipHeight::from(h as u32)
-}
