@@ -17,11 +17,11 @@ use sentences::OF_VOLUME;
 // few, else the middle or below.
 #[tactic(auto, using(crate::proofs::HeightLaws::among_all, crate::proofs::HeightLaws::among_one, crate::proofs::HeightLaws::lowest_is))]
 fn lowest(table: &SoundTable, w: u32) -> u32
-    requires { w ≤ last_row table.now.dh table.now.step table.now.rows.now }
-    ensures { result ≡ height_for table.now.dh table.now.step table.now.rows.now w }
+    requires { w ≤ last_row table.now.schedule.dh table.now.schedule.step table.now.rows.now }
+    ensures { result ≡ height_for table.now.schedule.dh table.now.schedule.step table.now.rows.now w }
 {
     let mut low = 0;
-    let mut high = table.dh;
+    let mut high = table.schedule.dh;
     while low < high {
         let middle = low + (high - low) / 2;
         if table.litres(middle) < w {

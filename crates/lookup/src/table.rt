@@ -8,7 +8,7 @@ ghost use Rattle.lookup.specs.Answer.{unsound};
 use crate::line::on_line;
 use measure::diameter::Diameter;
 use refusal::{Refusal, about_of, one_test};
-use schedule::{LARGEST_STEP, SMALLEST_STEP, row_count, row_height};
+use schedule::{LARGEST_STEP, SMALLEST_STEP, Schedule};
 use sentences::OF_TABLE;
 
 // No row is below the row before.
@@ -29,32 +29,35 @@ fn is_sound(dh: u32, step: u32, rows: &[u32]) -> bool
     if !(SMALLEST_STEP..=LARGEST_STEP).contains(&step) {
         return false;
     }
-    rows.len() == row_count(dh, step) && never_falls(rows)
+    rows.len() == Schedule { dh, step }.rows() && never_falls(rows)
 }
 
-// The rows, with the DH and the step that they are of.
+// The rows, and where they stand.
 #[derive(Clone, Copy)]
 pub struct SoundTable<'a> {
-    pub dh: u32,
-    pub step: u32,
+    pub schedule: Schedule,
     pub rows: &'a [u32],
-    ghost sound: { sound_table dh step rows.now ≡ true },
+    ghost sound: { sound_table schedule.dh schedule.step rows.now ≡ true },
 }
 
 impl<'a> SoundTable<'a> {
     // Refusal 11, of a table that is not sound.
+    #[tactic(auto, using(crate::specs::TableLaws::sound))]
     pub fn tested(dh: u32, step: u32, rows: &'a [u32]) -> Result<SoundTable<'a>, Refusal>
-        ensures { MatchResult result (λ t. (t.dh ≡ dh) × (t.step ≡ step) × (t.rows.now ≡ rows.now)) (λ r. (sound_table dh step rows.now ≡ false) × (r ≡ refusal 11 0 (unsound dh step))) }
+        ensures { MatchResult result (λ t. (t.schedule.dh ≡ dh) × (t.schedule.step ≡ step) × (t.rows.now ≡ rows.now)) (λ r. (sound_table dh step rows.now ≡ false) × (r ≡ refusal 11 0 (unsound dh step))) }
     {
         let about = about_of(OF_TABLE, dh, u64::from(step), 0, 0);
         one_test(11, 0, is_sound(dh, step, rows), about)?;
-        Ok(SoundTable { dh, step, rows })
+        Ok(SoundTable {
+            schedule: Schedule { dh, step },
+            rows,
+        })
     }
 
     // The row at DH.
     #[tactic(auto, using(crate::specs::TableLaws::sound, schedule::specs::RowsLaws::count_pos))]
     pub fn last(&self) -> u32
-        ensures { result ≡ last_row self.now.dh self.now.step self.now.rows.now }
+        ensures { result ≡ last_row self.now.schedule.dh self.now.schedule.step self.now.rows.now }
     {
         self.rows[self.rows.len() - 1]
     }
@@ -62,15 +65,15 @@ impl<'a> SoundTable<'a> {
     // The litres at a height within the tank.
     #[tactic(auto, using(crate::specs::TableLaws::sound, schedule::specs::RowsLaws::inside_count, schedule::specs::RowsLaws::inside_below, schedule::specs::RowsLaws::inside_above, schedule::specs::RowsLaws::gap_at_most))]
     pub fn litres(&self, h: u32) -> u32
-        requires { h ≤ self.now.dh }
-        ensures { result ≡ litres self.now.dh self.now.step self.now.rows.now h }
+        requires { h ≤ self.now.schedule.dh }
+        ensures { result ≡ litres self.now.schedule.dh self.now.schedule.step self.now.rows.now h }
     {
-        if h == self.dh {
+        if h == self.schedule.dh {
             return self.last();
         }
-        let i = (h / self.step) as usize;
-        let low = row_height(self.dh, self.step, i).units();
-        let high = row_height(self.dh, self.step, i + 1).units();
+        let i = (h / self.schedule.step) as usize;
+        let low = self.schedule.height(i).units();
+        let high = self.schedule.height(i + 1).units();
         on_line(self.rows, i, h - low, high - low)
     }
 }

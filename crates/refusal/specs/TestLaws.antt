@@ -24,7 +24,7 @@ pub passed_last : (v : Verdict) → first_refusal v (Ok tt) ≡ v
 passed_last (Ok tt) = refl
 passed_last (Err r) = refl
 
--- tests taken in turn, each behind the verdict so far, as code takes them
+-- tests taken in turn, each behind the verdict so far: the same as all of them behind it
 abbrev pub in_turn : Verdict → List Test → Verdict
 in_turn v [] = v
 in_turn v (t ∷ ts) = in_turn (first_refusal v (verdict (t ∷ []))) ts
@@ -37,7 +37,7 @@ verdict_in_turn v (t ∷ ts) = verdict_in_turn (first_refusal v (verdict (t ∷ 
     behind (Ok tt) = sym (verdict_append (t ∷ []) ts)
     behind (Err r) = refl
 
--- one item more, as a loop over the items goes on
+-- one item more: its tests behind the verdict on the items before it
 pub verdict_next : (n : ℕ) (f : ℕ → List Test) {v : Verdict} → v ≡ verdict (items n f) → first_refusal v (verdict (f n)) ≡ verdict (items (n + 1) f)
 unfolding items
 verdict_next n f e = rw (add-one, e) (sym (verdict_append (items n f) (f n)))

@@ -9,6 +9,7 @@ ghost use Rattle.row_tests.specs.Left.{left_by};
 
 use crate::tests::rows_tested;
 use refusal::Refusal;
+use schedule::Schedule;
 
 // The rows fit their cells.
 #[tactic(auto, using(laws::specs::FillLaws::filled_none))]
@@ -24,16 +25,15 @@ fn copy_rows(net: &[i64], rows: usize, table: &mut [u32])
 // Refusals 8 and 9 on rows in memory; a table that is refused is not touched.
 pub fn test_and_copy(
     net: &[i64],
-    dh: u32,
-    step: u32,
+    schedule: Schedule,
     rows: usize,
     table: &mut [u32],
 ) -> Result<(), Refusal>
-    requires { (rows ≤ length net.now) × (rows < 2 ^ 32) × (0 < step) × (rows ≡ row_count dh step) × ((i : ℕ) → i < rows → cell_in net.now i < 2 ^ 32) }
-    ensures value { result ≡ verdict (row_tests (net_of net.now) (row_height dh step) rows (length table.old)) }
+    requires { (rows ≤ length net.now) × (rows < 2 ^ 32) × (rows ≡ row_count schedule.dh schedule.step) × ((i : ℕ) → i < rows → cell_in net.now i < 2 ^ 32) }
+    ensures value { result ≡ verdict (row_tests (net_of net.now) (row_height schedule.dh schedule.step) rows (length table.old)) }
     ensures table_after { table.new ≡ left_by result (cell_in net.now) rows table.old }
 {
-    rows_tested(net, dh, step, rows, table.len())?;
+    rows_tested(net, schedule, rows, table.len())?;
     copy_rows(net, rows, table);
     Ok(())
 }

@@ -6,7 +6,7 @@ ghost use Rattle.rows.specs.RowLaws.{net_of};
 ghost use Rattle.row_tests.specs.Tests.{keeps_up, fall_test, row_tests};
 
 use refusal::{Refusal, about_of, one_test};
-use schedule::row_height;
+use schedule::Schedule;
 use sentences::{OF_FALLING_ROW, OF_LENT_TABLE};
 
 // Row i is not below the row before.
@@ -18,11 +18,11 @@ fn keeps_up(net: &[i64], i: usize) -> bool
 }
 
 // Refusal 9 of row i, whose height is told.
-fn fall_tested(net: &[i64], dh: u32, step: u32, i: usize) -> Result<(), Refusal>
-    requires { (i < length net.now) × (i < 2 ^ 32) × (0 < step) × (i < row_count dh step) }
-    ensures { result ≡ verdict (fall_test (net_of net.now) (row_height dh step) i) }
+fn fall_tested(net: &[i64], schedule: Schedule, i: usize) -> Result<(), Refusal>
+    requires { (i < length net.now) × (i < 2 ^ 32) × (i < row_count schedule.dh schedule.step) }
+    ensures { result ≡ verdict (fall_test (net_of net.now) (row_height schedule.dh schedule.step) i) }
 {
-    let height = u64::from(row_height(dh, step, i).units());
+    let height = u64::from(schedule.height(i).units());
     let about = about_of(OF_FALLING_ROW, i as u32, height, 0, 0);
     one_test(9, i as u32, keeps_up(net, i), about)
 }
@@ -32,18 +32,17 @@ fn fall_tested(net: &[i64], dh: u32, step: u32, i: usize) -> Result<(), Refusal>
 #[tactic(auto, using(crate::proofs::Room::room_short, refusal::specs::TestLaws::passed_next), unfolding(crate::specs::Tests::row_tests, refusal::specs::Test::items))]
 pub fn rows_tested(
     net: &[i64],
-    dh: u32,
-    step: u32,
+    schedule: Schedule,
     rows: usize,
     cells: usize,
 ) -> Result<(), Refusal>
-    requires { (rows ≤ length net.now) × (rows < 2 ^ 32) × (0 < step) × (rows ≡ row_count dh step) }
-    ensures { result ≡ verdict (row_tests (net_of net.now) (row_height dh step) rows cells) }
+    requires { (rows ≤ length net.now) × (rows < 2 ^ 32) × (rows ≡ row_count schedule.dh schedule.step) }
+    ensures { result ≡ verdict (row_tests (net_of net.now) (row_height schedule.dh schedule.step) rows cells) }
 {
     let about = about_of(OF_LENT_TABLE, 0, 0, 0, 0);
     one_test(8, 0, rows <= cells, about)?;
     for i in 0..rows {
-        fall_tested(net, dh, step, i)?;
+        fall_tested(net, schedule, i)?;
     }
     Ok(())
 }

@@ -3,7 +3,7 @@
 
 ghost use Rattle.std.specs.Prelude.{◌≡◌, ◌++◌, ◌≤◌, length, drop};
 ghost use Rattle.laws.specs.Fill.{rows_of};
-ghost use Rattle.measure.specs.Quantity.{dip_units};
+ghost use Rattle.measure.specs.Quantity.{dip_units, diameter_units};
 ghost use Rattle.schedule.specs.Rows.{most_rows};
 ghost use Rattle.tank.specs.FillingLaws.{filling_at};
 ghost use Rattle.survey.specs.SurveyLaws.{SurveyLimits};
@@ -11,9 +11,20 @@ ghost use Rattle.rows.specs.Rows.{rows_in, net_at, net_row};
 
 use deadwood::sum::sum_of_shares;
 use measure::dip_height::DipHeight;
-use schedule::{row_count, row_height};
+use schedule::Schedule;
 use survey::decode::Survey;
 use tank::filling::Filling;
+
+// Where the rows stand.
+pub fn schedule_of(survey: Survey) -> Schedule
+    requires { SurveyLimits survey }
+    ensures { (result.dh ≡ diameter_units survey.tank.dh) × (result.step ≡ survey.step) }
+{
+    Schedule {
+        dh: survey.tank.dh.units(),
+        step: survey.step,
+    }
+}
 
 // The number of rows.
 #[tactic(auto, using(schedule::specs::RowsLaws::few_rows))]
@@ -21,7 +32,7 @@ pub fn rows_in(survey: Survey) -> usize
     requires { SurveyLimits survey }
     ensures { (result ≡ rows_in survey) × (result ≤ most_rows) }
 {
-    row_count(survey.tank.dh.units(), survey.step)
+    schedule_of(survey).rows()
 }
 
 // Gross less all shares, at a dip height that the tank is filled to.
@@ -39,10 +50,10 @@ pub fn net_rows(survey: Survey, rows: usize, out: &mut [i64])
     requires { SurveyLimits survey × (rows ≡ rows_in survey) × (rows ≤ length out.old) }
     ensures { out.new ≡ rows_of (net_row survey) rows ++ drop rows out.old }
 {
-    let dh = survey.tank.dh.units();
+    let schedule = schedule_of(survey);
     let mut filling = Filling::empty();
     for i in 0..rows {
-        let h = row_height(dh, survey.step, i);
+        let h = schedule.height(i);
         filling = filling.on_to(survey.tank, h);
         out[i] = net_at(&survey, filling, h);
     }

@@ -11,7 +11,7 @@ use crate::refused::refused_said;
 use crate::{OUT_SIZE, Said};
 use lines::{row_line, rows_line};
 use refusal::Refusal;
-use schedule::row_height;
+use schedule::Schedule;
 use text::put::Writer;
 
 // The rows of a table, with the dip point's height and the step that they are made for.
@@ -30,8 +30,12 @@ impl Rows<'_> {
         ensures put { Wrote (rows_text self.entry.dh self.entry.step self.entry.cells.now (length self.entry.cells.now)) w.old w.new }
         ensures short { length (rows_text self.entry.dh self.entry.step self.entry.cells.now (length self.entry.cells.now)) ≤ length self.entry.cells.now * row_size }
     {
+        let schedule = Schedule {
+            dh: self.dh,
+            step: self.step,
+        };
         for (i, cell) in self.cells.iter().enumerate() {
-            row_line(w, row_height(self.dh, self.step, i).units(), *cell);
+            row_line(w, schedule.height(i).units(), *cell);
         }
     }
 

@@ -15,25 +15,34 @@ pub const LARGEST_STEP: u32 = 10_000;
 // The most rows that the limits allow.
 pub const MOST_ROWS: usize = 5_001;
 
-// How many rows a table has: one at each multiple of the step up to DH, and one more at DH where that is none. The limits above are
-// those of the definition.
-#[tactic(auto, using(crate::specs::RowsLaws::count_even, crate::specs::RowsLaws::count_odd))]
-pub fn row_count(dh: u32, step: u32) -> usize
-    requires { 0 < step }
-    ensures value { result ≡ row_count dh step }
-    ensures smallest_step_value { SMALLEST_STEP ≡ smallest_step }
-    ensures largest_step_value { LARGEST_STEP ≡ largest_step }
-    ensures most_rows_value { MOST_ROWS ≡ most_rows }
-{
-    dh.div_ceil(step) as usize + 1
+// Where the rows of a table stand: at each multiple of the step up to DH, and at DH.
+#[derive(Clone, Copy)]
+pub struct Schedule {
+    pub dh: u32,
+    pub step: u32,
+    pub ghost rising: { 0 < step },
 }
 
-// The height of row i, which is below the row count.
-#[tactic(auto, using(crate::specs::RowsLaws::steps_at_most), unfolding(crate::specs::Rows::row_height))]
-pub fn row_height(dh: u32, step: u32, i: usize) -> DipHeight
-    requires { (0 < step) × (i < row_count dh step) }
-    ensures { result ≡ dip_height (row_height dh step i) }
-{
-    let h = (i * step as usize).min(dh as usize);
-    DipHeight::from(h as u32)
+impl Schedule {
+    // How many rows a table has: one at each multiple of the step up to DH, and one more at DH where that is none. The limits above are
+    // those of the definition.
+    #[tactic(auto, using(crate::specs::RowsLaws::count_even, crate::specs::RowsLaws::count_odd))]
+    pub fn rows(self) -> usize
+        ensures value { result ≡ row_count self.dh self.step }
+        ensures smallest_step_value { SMALLEST_STEP ≡ smallest_step }
+        ensures largest_step_value { LARGEST_STEP ≡ largest_step }
+        ensures most_rows_value { MOST_ROWS ≡ most_rows }
+    {
+        self.dh.div_ceil(self.step) as usize + 1
+    }
+
+    // The height of row i, which is below the row count.
+    #[tactic(auto, using(crate::specs::RowsLaws::steps_at_most), unfolding(crate::specs::Rows::row_height))]
+    pub fn height(self, i: usize) -> DipHeight
+        requires { i < row_count self.dh self.step }
+        ensures { result ≡ dip_height (row_height self.dh self.step i) }
+    {
+        let h = (i * self.step as usize).min(self.dh as usize);
+        DipHeight::from(h as u32)
+    }
 }

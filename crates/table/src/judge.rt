@@ -7,7 +7,7 @@ ghost use Rattle.table.specs.Answer.{verdict_on};
 
 use refusal::Refusal;
 use row_tests::tests::rows_tested;
-use rows::{net_rows, rows_in};
+use rows::{net_rows, rows_in, schedule_of};
 use schedule::MOST_ROWS;
 use survey::decode::Survey;
 
@@ -18,7 +18,7 @@ fn rows_judged(v: Survey, cells: usize) -> Result<(), Refusal>
     let rows = rows_in(v);
     let mut net = [0i64; MOST_ROWS];
     net_rows(v, rows, &mut net);
-    rows_tested(&net, v.tank.dh.units(), v.step, rows, cells)
+    rows_tested(&net, schedule_of(v), rows, cells)
 }
 
 // Refusals 1 to 9 and 14, for a lent table of so many cells.

@@ -12,7 +12,7 @@ ghost use Rattle.table.specs.Condition3.{EveryRow, NetRowAt, Condition3At};
 use measure::diameter::Diameter;
 use refusal::Refusal;
 use row_tests::copy::test_and_copy;
-use rows::{net_rows, rows_in};
+use rows::{net_rows, rows_in, schedule_of};
 use schedule::MOST_ROWS;
 use survey::decode::{Survey, decode};
 
@@ -51,7 +51,7 @@ fn fill(v: Survey, table: &mut [u32]) -> Result<(), Refusal>
     let rows = rows_in(v);
     let mut net = [0i64; MOST_ROWS];
     net_rows(v, rows, &mut net);
-    test_and_copy(&net, v.tank.dh.units(), v.step, rows, table)
+    test_and_copy(&net, schedule_of(v), rows, table)
 }
 
 // The verdict on a decoded file and its rows, with what it is about, and the rows in the table where nothing is refused.

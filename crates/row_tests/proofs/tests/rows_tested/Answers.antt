@@ -15,5 +15,5 @@ returns-in_err-fall_tested c =
     let room : a.rows ≤ a.cells = search rules in
     let p = err_from_is_err_and c.from_residual-in_err-fall_tested.result c.from_residual-in_err-fall_tested.ensures.1 in
     rw (p.1, p.2)
-    (sym (room_enough (net_of a.net.now) (row_height a.dh a.step) a.rows a.cells room
-    ∙ refused_next l.i a.rows (fall_test (net_of a.net.now) (row_height a.dh a.step)) _ (omega arith) l.invariant (sym c.in_err-fall_tested.ensures)))
+    (sym (room_enough (net_of a.net.now) (row_height a.schedule.dh a.schedule.step) a.rows a.cells room
+    ∙ refused_next l.i a.rows (fall_test (net_of a.net.now) (row_height a.schedule.dh a.schedule.step)) _ (omega arith) l.invariant (sym c.in_err-fall_tested.ensures)))

@@ -8,4 +8,4 @@ use Rattle.row_tests.specs.Tests.{fall_test}
 use Rattle.row_tests.proofs.tests.rows_tested.Given as goal
 
 abbrev pub invariant-loop-i : goal.invariant-loop-i
-invariant-loop-i l = verdict (items l.i (fall_test (net_of l.net) (row_height l.dh l.step))) ≡ Ok tt
+invariant-loop-i l = verdict (items l.i (fall_test (net_of l.net) (row_height l.schedule.dh l.schedule.step))) ≡ Ok tt

@@ -12,7 +12,7 @@ returns c =
     let v = c.args.v in
     let rows = c.rows_in-rows.result in
     let cells = c.args.cells in
-    (rw c.units.ensures at c.rows_tested.ensures)
+    (rw (c.schedule_of.ensures.0, c.schedule_of.ensures.1) at c.rows_tested.ensures)
     ∙ ap (λ (n : List ℤ). verdict (row_tests (net_of n) (height_of v) rows cells)) c.net_rows.ensures
     ∙ ap verdict (front_tests (net_row v) (height_of v) rows _ cells)
     ∙ ap (λ (n : ℕ). verdict (row_tests (net_row v) (height_of v) n cells)) c.rows_in-rows.ensures.0

@@ -14,10 +14,10 @@ test_and_copy-requires c =
     let v = c.args.v in
     let n = c.rows_in-rows.result in
     let rows = c.rows_in-rows.ensures in
-    rw (c.net_rows.ensures, c.units.ensures) (
+    let schedule = c.schedule_of.ensures in
+    rw (c.net_rows.ensures, schedule.0, schedule.1) (
       simp length-append (omega (arith, length_rows_of (net_row v) n)),
       omega (arith, rows.1),
-      omega (arith, c.requires.step_low),
       rows.0,
       λ i l. rw (front_row (net_row v) n _ i l) (net_small v (height_of v i) c.requires),
     )
@@ -27,7 +27,7 @@ returns-clause-value c =
     let v = c.args.v in
     let rows = c.rows_in-rows.result in
     let table = c.args.table.now in
-    (rw c.units.ensures at c.test_and_copy.ensures.value)
+    (rw (c.schedule_of.ensures.0, c.schedule_of.ensures.1) at c.test_and_copy.ensures.value)
     ∙ ap (λ (n : List ℤ). verdict (row_tests (net_of n) (height_of v) rows (length table))) c.net_rows.ensures
     ∙ ap verdict (front_tests (net_row v) (height_of v) rows _ (length table))
     ∙ ap (λ (r : ℕ). verdict (row_tests (net_row v) (height_of v) r (length table))) c.rows_in-rows.ensures.0

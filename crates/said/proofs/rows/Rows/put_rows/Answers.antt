@@ -7,7 +7,7 @@ use Rattle.said.proofs.rows.Rows.put_rows.Goals as goal
 pub loop-i-preserved : goal.loop-i-preserved
 unfolding rows_text
 loop-i-preserved c =
-    let line = rw (c.units.ensures, c.row_height.ensures) at c.row_line.ensures.put in
-    let short = rw (c.units.ensures, c.row_height.ensures) at c.row_line.ensures.short in
+    let line = rw (c.units.ensures, c.height.ensures) at c.row_line.ensures.put in
+    let short = rw (c.units.ensures, c.height.ensures) at c.row_line.ensures.short in
     let l = c.loop-i.invariant in
     (rw add-one (wrote_both l.0 line), rw (add-one, length-append) (omega (arith, short)))
