@@ -6,7 +6,6 @@ ghost use Rattle.laws.specs.Fill.{rows_of};
 ghost use Rattle.measure.specs.Quantity.{dip_units};
 ghost use Rattle.schedule.specs.Rows.{most_rows};
 ghost use Rattle.tank.specs.FillingLaws.{filling_at};
-ghost use Rattle.survey.specs.SurveyLaws.{SurveyLimits};
 ghost use Rattle.rows.specs.Rows.{rows_in, net_at, net_row};
 
 use deadwood::sum::sum_of_shares;
@@ -18,7 +17,6 @@ use tank::filling::Filling;
 // The number of rows.
 #[tactic(auto, using(schedule::specs::RowsLaws::few_rows))]
 pub fn rows_in(survey: Survey) -> usize
-    requires { SurveyLimits survey }
     ensures { (result ≡ rows_in survey) × (result ≤ most_rows) }
 {
     row_count(survey.tank.dh.units(), survey.step)
@@ -26,17 +24,17 @@ pub fn rows_in(survey: Survey) -> usize
 
 // Gross less all shares, at a dip height that the tank is filled to.
 fn net_at(survey: &Survey, filling: Filling, h: DipHeight) -> i64
-    requires { SurveyLimits survey.now × (filling ≡ filling_at survey.now.tank (dip_units h)) }
+    requires { filling ≡ filling_at survey.now.tank (dip_units h) }
     ensures { result ≡ net_at survey.now (dip_units h) }
 {
-    let shares = sum_of_shares(&survey.deadwood[..survey.count], h);
+    let shares = sum_of_shares(survey.deadwood(), h);
     i64::from(filling.gross(survey.tank, h).units()) - shares
 }
 
 // The net rows into the front of `out`.
 #[tactic(auto, using(laws::specs::FillLaws::filled_none))]
 pub fn net_rows(survey: Survey, rows: usize, out: &mut [i64])
-    requires { SurveyLimits survey × (rows ≡ rows_in survey) × (rows ≤ length out.old) }
+    requires { (rows ≡ rows_in survey) × (rows ≤ length out.old) }
     ensures { out.new ≡ rows_of (net_row survey) rows ++ drop rows out.old }
 {
     let dh = survey.tank.dh.units();
