@@ -27,8 +27,7 @@ fn net_at(survey: &Survey, filling: Filling, h: DipHeight) -> i64
     requires { filling ≡ filling_at survey.now.tank (dip_units h) }
     ensures { result ≡ net_at survey.now (dip_units h) }
 {
-    let shares = sum_of_shares(survey.deadwood(), h);
-    i64::from(filling.gross(survey.tank, h).units()) - shares
+    i64::from(filling.gross(survey.tank, h).units()) - sum_of_shares(survey.deadwood(), h)
 }
 
 // The net rows into the front of `out`.
@@ -37,11 +36,13 @@ pub fn net_rows(survey: Survey, rows: usize, out: &mut [i64])
     requires { (rows ≡ rows_in survey) × (rows ≤ length out.old) }
     ensures { out.new ≡ rows_of (net_row survey) rows ++ drop rows out.old }
 {
-    let dh = survey.tank.dh.units();
+    let tank = survey.tank;
+    let dh = tank.dh.units();
+    let step = survey.step;
     let mut filling = Filling::empty();
     for i in 0..rows {
-        let h = row_height(dh, survey.step, i);
-        filling = filling.on_to(survey.tank, h);
+        let h = row_height(dh, step, i);
+        filling = filling.on_to(tank, h);
         out[i] = net_at(&survey, filling, h);
     }
 }
