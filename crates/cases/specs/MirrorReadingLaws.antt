@@ -58,7 +58,7 @@ diameters_needed = (λ a. not-le_of_lt (leb-false _ _ refl) a.at_most, λ a. not
 -- 100 v at the middle and 200 v when full, and an item below the middle that takes 10 v: twice 90 v against 190 v
 abbrev with_deadwood : Survey
 with_deadwood =
-    record { tank = tank Flat 2 2 (10 ^ 12) 0 0; step = 1; deadwood = deadwood 0 1 (pos 10) ∷ []; count = 1 }
+    record { tank = tank Flat 2 2 (10 ^ 12) 0 0; step = 1; deadwood = deadwood 0 1 (pos 10) ∷ [] }
 
 pub no_deadwood_needed : Around 3 (nat_abs (net_at with_deadwood 1)) (nat_abs (net_at with_deadwood 1)) (nat_abs (net_at with_deadwood 2)) → ⊥
 unfolding sum root chord chord_square doubled_area nearest corrected_height cylinder_volume heads_volume volume_of gross parts_of filled_at gross_at share_size share sumℤ shares_of net_at

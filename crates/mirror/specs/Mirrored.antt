@@ -26,7 +26,7 @@ pub record MirroredTank (t : Tank) : Type 0 where
 -- and no deadwood
 pub record MirroredSurvey (v : Survey) : Type 0 where
   pub tank : MirroredTank v.tank
-  pub no_deadwood : v.count ≡ 0
+  pub no_deadwood : v.deadwood ≡ []
 
 -- one v for each part of the tank: shell, flanges, heads
 abbrev pub mirror_tolerance : ℕ

@@ -1,6 +1,6 @@
 -- Net rows: each fits a cell, without deadwood it is the gross row, and that at height 0 is not below zero; and net rows in memory, where rows at the
 -- front of a list are those rows. Assumes nothing.
-use Rattle.std.specs.Prelude.{ℕ, ◌*◌, ◌^◌, ◌<◌, ◌≡◌, true, List, ◌++◌, ℤ, pos, neg_ℤ, nat_abs, ◌-ℤ◌, get_or}
+use Rattle.std.specs.Prelude.{ℕ, ◌*◌, ◌^◌, ◌<◌, ◌≡◌, true, List, [], ◌++◌, ℤ, pos, neg_ℤ, nat_abs, ◌-ℤ◌, get_or}
 use Rattle.std.proofs.Common.{◌∙◌, zero-mul, arith}
 use Rattle.std.proofs.Math.Nat.{min-le_left}
 use Rattle.std.proofs.Math.IntN.{+ℤ_idr}
@@ -15,7 +15,6 @@ use Rattle.tank.specs.Tank.{gross_at}
 use Rattle.tank.specs.TankLaws.{gross_small}
 use Rattle.deadwood.specs.ListLaws.{shares_small, no_shares_of_none, no_shares_at_bottom}
 use Rattle.survey.specs.declared.decode.Survey.{Survey}
-use Rattle.survey.specs.Survey.{items_in}
 use Rattle.survey.specs.SurveyLaws.{SurveyLimits}
 use Rattle.rows.specs.Rows.{shares_at, net_at, height_of, net_row}
 
@@ -35,14 +34,14 @@ net_small v h l =
     omega (
       arith,
       gross_small v.tank h l.tank,
-      shares_small (items_in v) h l.items,
+      shares_small v.deadwood h l.items,
       negated_size z,
       sum_size (pos g) (neg_ℤ z),
       nat_abs_at_most (pos g -ℤ z),
     )
 
 -- without deadwood net is gross
-pub net_is_gross : (v : Survey) → v.count ≡ 0 → (h : ℕ) → net_at v h ≡ pos (gross_at v.tank h)
+pub net_is_gross : (v : Survey) → v.deadwood ≡ [] → (h : ℕ) → net_at v h ≡ pos (gross_at v.tank h)
 unfolding net_at
 net_is_gross v no_items h = rw (no_items, no_shares_of_none h) (+ℤ_idr _)
 
@@ -51,7 +50,7 @@ pub row_0_not_below_zero : (v : Survey) → non_neg (net_row v 0) ≡ true
 unfolding net_at row_height
 row_0_not_below_zero v =
     let bottom : height_of v 0 ≡ 0 = omega (arith, min-le_left (0 * v.step) (diameter_units v.tank.dh), zero-mul v.step) in
-    rw (bottom, no_shares_at_bottom (items_in v))
+    rw (bottom, no_shares_at_bottom v.deadwood)
 
 -- rows at the front of a list in memory are those rows
 pub front_row : (f : ℕ → ℤ) (n : ℕ) (rest : List ℤ) (i : ℕ) → i < n → net_of (rows_of f n ++ rest) i ≡ f i

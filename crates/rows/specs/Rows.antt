@@ -7,11 +7,10 @@ use Rattle.schedule.specs.Rows.{row_count, row_height}
 use Rattle.tank.specs.Tank.{gross_at}
 use Rattle.deadwood.specs.Share.{shares_of}
 use Rattle.survey.specs.declared.decode.Survey.{Survey}
-use Rattle.survey.specs.Survey.{items_in}
 
 -- all deadwood shares at dip height H
 abbrev pub shares_at : Survey → ℕ → ℤ
-shares_at v h = shares_of (items_in v) h
+shares_at v h = shares_of v.deadwood h
 
 -- net = gross minus all shares
 unfoldable pub net_at : Survey → ℕ → ℤ

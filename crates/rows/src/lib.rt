@@ -6,7 +6,6 @@ ghost use Rattle.laws.specs.Fill.{rows_of};
 ghost use Rattle.measure.specs.Quantity.{dip_units, diameter_units};
 ghost use Rattle.schedule.specs.Rows.{most_rows};
 ghost use Rattle.tank.specs.FillingLaws.{filling_at};
-ghost use Rattle.survey.specs.SurveyLaws.{SurveyLimits};
 ghost use Rattle.rows.specs.Rows.{rows_in, net_at, net_row};
 
 use deadwood::sum::sum_of_shares;
@@ -17,7 +16,6 @@ use tank::filling::Filling;
 
 // Where the rows stand.
 pub fn schedule_of(survey: Survey) -> Schedule
-    requires { SurveyLimits survey }
     ensures { (result.dh ≡ diameter_units survey.tank.dh) × (result.step ≡ survey.step) }
 {
     Schedule {
@@ -29,7 +27,6 @@ pub fn schedule_of(survey: Survey) -> Schedule
 // The number of rows.
 #[tactic(auto, using(schedule::specs::RowsLaws::few_rows))]
 pub fn rows_in(survey: Survey) -> usize
-    requires { SurveyLimits survey }
     ensures { (result ≡ rows_in survey) × (result ≤ most_rows) }
 {
     schedule_of(survey).rows()
@@ -37,24 +34,24 @@ pub fn rows_in(survey: Survey) -> usize
 
 // Gross less all shares, at a dip height that the tank is filled to.
 fn net_at(survey: &Survey, filling: Filling, h: DipHeight) -> i64
-    requires { SurveyLimits survey.now × (filling ≡ filling_at survey.now.tank (dip_units h)) }
+    requires { filling ≡ filling_at survey.now.tank (dip_units h) }
     ensures { result ≡ net_at survey.now (dip_units h) }
 {
-    let shares = sum_of_shares(&survey.deadwood[..survey.count], h);
-    i64::from(filling.gross(survey.tank, h).units()) - shares
+    i64::from(filling.gross(survey.tank, h).units()) - sum_of_shares(survey.deadwood(), h)
 }
 
 // The net rows into the front of `out`.
 #[tactic(auto, using(laws::specs::FillLaws::filled_none))]
 pub fn net_rows(survey: Survey, rows: usize, out: &mut [i64])
-    requires { SurveyLimits survey × (rows ≡ rows_in survey) × (rows ≤ length out.old) }
+    requires { (rows ≡ rows_in survey) × (rows ≤ length out.old) }
     ensures { out.new ≡ rows_of (net_row survey) rows ++ drop rows out.old }
 {
     let schedule = schedule_of(survey);
+    let tank = survey.tank;
     let mut filling = Filling::empty();
     for i in 0..rows {
         let h = schedule.height(i);
-        filling = filling.on_to(survey.tank, h);
+        filling = filling.on_to(tank, h);
         out[i] = net_at(&survey, filling, h);
     }
 }

@@ -1,7 +1,5 @@
 -- What a file that is not refused promises of its survey, as plain facts. Assumes nothing.
 use Rattle.std.specs.Prelude.{ℕ, ◌≤◌, ◌≡◌, refl, true, List, Ok, Err}
-use Rattle.std.proofs.Common.{take_at}
-use Rattle.laws.specs.FillLaws.{length_rows_of}
 use Rattle.laws.specs.BoolLaws.{both_pass}
 use Rattle.measure.specs.Diameter.{smallest, largest}
 use Rattle.refusal.specs.Test.{verdict, within, near, Verdict}
@@ -12,9 +10,7 @@ use Rattle.file.specs.declared.format.Format.{Format}
 use Rattle.file.specs.Word.{word}
 use Rattle.file.specs.Layout.{kind_at, dh_at, l3_at}
 use Rattle.file.specs.Format.{today}
-use Rattle.file.specs.Section.{deadwood}
 use Rattle.file.specs.SectionLaws.{Readable, today_readable}
-use Rattle.records.specs.Item.{items_of}
 use Rattle.readings.specs.FitLaws.{NumbersFit, as_they_stand}
 use Rattle.numbers.specs.FitLaws.{dh_fits, step_fits, lengths_fit, head_length_fits, items_fit}
 use Rattle.dimensions.specs.Dimensions.{farthest, d1, d2, diameter_fits}
@@ -39,7 +35,6 @@ survey_fits f s readable e =
     let pass = passed_all (dimension_tests f s) (passed_file f s readable e).1 in
     let shell = fits_within (d1 f s) (word s dh_at) pass.1.0 in
     let heads = fits_within (d2 f s) (word s dh_at) pass.1.1.0 in
-    let n = (deadwood f s).count in
     record {
       tank = record {
         dh_low = (dh_fits f s fit).0;
@@ -54,8 +49,7 @@ survey_fits f s readable e =
       };
       step_low = (step_fits f s fit).0;
       step_high = (step_fits f s fit).1;
-      few = fit.placed.few_items;
-      items = rw (take_at (items_of f s) _ n (length_rows_of _ n)) (items_fit f s fit);
+      items = items_fit f s fit;
     }
 
 -- what decoding gives is within its limits, whatever the file

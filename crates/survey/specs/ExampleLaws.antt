@@ -6,7 +6,7 @@ use Rattle.heads.specs.declared.kind.HeadKind.{HeadKind}
 use Rattle.heads.specs.declared.kind.HeadKind.TheVariants.{Flat, SphericalCap}
 use Rattle.file.specs.Word.{bytes_of}
 use Rattle.survey.specs.declared.decode.Survey.{Survey}
-use Rattle.survey.specs.Survey.{no_items, decoded_by, decoded}
+use Rattle.survey.specs.Survey.{decoded_by, decoded}
 
 -- a course of this length, as round and as thick
 abbrev pub course_of : ℕ → List ℕ
@@ -36,8 +36,7 @@ six_rows_survey_with kind l3 =
     record {
       tank = record { kind = kind; dh = diameter 50000; d1 = diameter 50000; d2 = diameter 50000; l1 = 100000; l2 = 0; l3 = l3 };
       step = 10000;
-      deadwood = no_items;
-      count = 0;
+      deadwood = [];
     }
 
 abbrev pub six_rows_survey : Survey

@@ -5,7 +5,6 @@ use Rattle.deadwood.specs.Item.{item_at}
 use Rattle.heads.specs.declared.kind.HeadKind.TheVariants.{SphericalCap}
 use Rattle.heads.specs.LengthLaws.{cap_limits}
 use Rattle.survey.specs.declared.decode.Survey.{Survey}
-use Rattle.survey.specs.Survey.{items_in}
 use Rattle.survey.specs.SurveyLaws.{SurveyLimits}
 
 module _ (v : Survey) (limits : SurveyLimits v) where
@@ -27,7 +26,7 @@ module _ (v : Survey) (limits : SurveyLimits v) where
   pub step_in_numbers : (100 ≤ v.step) × (v.step ≤ 10000)
   step_in_numbers = (limits.step_low, limits.step_high)
 
-  pub items_in_numbers : (v.count ≤ 64)
-      × ((i : ℕ) → i < length (items_in v)
-      → (dip_units (item_at (items_in v) i).low < dip_units (item_at (items_in v) i).high) × (nat_abs (item_at (items_in v) i).volume ≤ 10000000))
-  items_in_numbers = (limits.few, λ i l. (limits.items.rises i l, limits.items.volume_size i l))
+  pub items_in_numbers : (length v.deadwood ≤ 64)
+      × ((i : ℕ) → i < length v.deadwood
+      → (dip_units (item_at v.deadwood i).low < dip_units (item_at v.deadwood i).high) × (nat_abs (item_at v.deadwood i).volume ≤ 10000000))
+  items_in_numbers = (limits.items.few, λ i l. (limits.items.rises i l, limits.items.volume_size i l))

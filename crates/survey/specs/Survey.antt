@@ -1,12 +1,10 @@
 -- The survey that a file holds, read by its format, and what decoding a file gives: its survey where no test refuses it, else the
 -- refusal. Assumes nothing.
-use Rattle.std.specs.Prelude.{ℕ, List, ◌++◌, take, drop, replicate, Result, Ok, Err}
+use Rattle.std.specs.Prelude.{ℕ, List, [], Result, Ok, Err}
 use Rattle.measure.specs.Diameter.{smallest}
 use Rattle.measure.specs.Quantity.{diameter}
 use Rattle.refusal.specs.declared.Refusal.{Refusal}
 use Rattle.refusal.specs.Test.{verdict, Verdict}
-use Rattle.deadwood.specs.declared.item.Deadwood.{Deadwood}
-use Rattle.deadwood.specs.Item.{most_items, no_item}
 use Rattle.heads.specs.declared.kind.HeadKind.TheVariants.{Flat}
 use Rattle.heads.specs.Kind.{kind_of}
 use Rattle.tank.specs.declared.tank.Tank.{Tank}
@@ -14,7 +12,6 @@ use Rattle.file.specs.declared.format.Format.{Format}
 use Rattle.file.specs.Word.{word}
 use Rattle.file.specs.Layout.{kind_at, dh_at, l1_at, l2_at, l3_at, step_at}
 use Rattle.file.specs.Format.{today}
-use Rattle.file.specs.Section.{deadwood}
 use Rattle.records.specs.Item.{items_of}
 use Rattle.dimensions.specs.Dimensions.{d1, d2}
 use Rattle.survey.specs.declared.decode.Survey.{Survey}
@@ -33,29 +30,17 @@ tank_of s d1 d2 =
       l3 = word s l3_at;
     }
 
--- what stands behind the deadwood: items that take nothing
-abbrev pub no_items : List Deadwood
-no_items = replicate most_items no_item
-
-abbrev pub filled_up : ℕ → List Deadwood → List Deadwood
-filled_up n items = items ++ drop n no_items
-
 -- a survey of these diameters
 abbrev pub survey_with : Format → List ℕ → (d1 d2 : ℕ) → Survey
 survey_with f s d1 d2 =
     record {
       tank = tank_of s d1 d2;
       step = word s step_at;
-      deadwood = filled_up (deadwood f s).count (items_of f s);
-      count = (deadwood f s).count;
+      deadwood = items_of f s;
     }
 
 abbrev pub survey_of : Format → List ℕ → Survey
 survey_of f s = survey_with f s (d1 f s) (d2 f s)
-
--- a survey's deadwood
-abbrev pub items_in : Survey → List Deadwood
-items_in v = take v.count v.deadwood
 
 -- a survey of nothing
 abbrev pub no_survey : Survey
@@ -63,8 +48,7 @@ no_survey =
     record {
       tank = record { kind = Flat; dh = diameter smallest; d1 = diameter smallest; d2 = diameter smallest; l1 = 0; l2 = 0; l3 = 0 };
       step = 0;
-      deadwood = no_items;
-      count = 0;
+      deadwood = [];
     }
 
 -- what decoding a file gives: its survey, or its refusal

@@ -8,8 +8,9 @@ ghost use Rattle.file.specs.Section.{deadwood};
 ghost use Rattle.form.specs.PlacedLaws.{Placed};
 ghost use Rattle.records.specs.Item.{items_of};
 ghost use Rattle.tank.specs.TankLaws.{TankLimits};
-ghost use Rattle.survey.specs.Survey.{tank_of, filled_up, survey_with, decoded_as, decoded};
-ghost use Rattle.survey.specs.SurveyLaws.{WithinLimits};
+ghost use Rattle.survey.specs.Survey.{tank_of, survey_with, decoded_as, decoded};
+ghost use Rattle.survey.specs.SurveyLaws.{SurveyLimits};
+ghost use Rattle.survey.specs.Held.{filled_up};
 
 use crate::judge::judged;
 use deadwood::item::{Deadwood, MOST_ITEMS};
@@ -22,6 +23,7 @@ use form::tests;
 use heads::kind::HeadKind;
 use records::item::item_from;
 use refusal::Refusal;
+use std::marker::Model;
 use tank::tank::Tank;
 
 // The size in bytes past which every file is refused: what a caller reads of one.
@@ -30,19 +32,44 @@ pub const LARGEST_FILE: usize = tests::LARGEST_FILE;
 // The length in bytes of the header that old files have: what `decode_48` reads.
 pub const OLD_HEADER: usize = layout::HEADER_END;
 
-// All that a table is made of. Behind the deadwood items stand items that take nothing.
+// All that a table is made of, of a file that is not refused. Behind the deadwood items stand items that take nothing.
 #[derive(Clone, Copy)]
 pub struct Survey {
     pub tank: Tank,
     pub step: u32,
-    pub deadwood: [Deadwood; MOST_ITEMS],
-    pub count: usize,
+    items: [Deadwood; MOST_ITEMS],
+    count: usize,
+}
+
+impl Model for Survey {
+    ghost use Rattle.survey.specs.Contents.{Contents};
+
+    ghost Value = { Contents };
+
+    ghost use Rattle.survey.specs.Held.{contents, held, held_again, Accepted};
+
+    ghost view = { contents };
+
+    ghost invariant = { Accepted };
+
+    ghost inverse = { held };
+
+    ghost inverse_ok = { held_again };
+}
+
+impl Survey {
+    // The deadwood items.
+    pub fn deadwood(&self) -> &[Deadwood]
+        ensures { result.now ≡ self.now.deadwood }
+    {
+        &self.items[..self.count]
+    }
 }
 
 // The deadwood items as one list of records.
 fn items(f: Format, s: &[u8]) -> [Deadwood; MOST_ITEMS]
     requires { Placed f s.now }
-    ensures { result ≡ filled_up (deadwood f s.now).count (items_of f s.now) }
+    ensures { result ≡ filled_up (items_of f s.now) }
 {
     let x = deadwood(f, s);
     let mut list = [Deadwood::nothing(); MOST_ITEMS];
@@ -70,13 +97,14 @@ fn tank_of(s: &[u8], found: Diameters) -> Tank
 
 // The survey of a file that is not refused, with its diameters.
 fn survey_of(f: Format, s: &[u8], found: Diameters) -> Survey
-    requires { Placed f s.now × (found.dh ≡ diameter (word s.now dh_at)) × TankLimits (tank_of s.now (diameter_units found.d1) (diameter_units found.d2)) }
+    requires file { Placed f s.now × (found.dh ≡ diameter (word s.now dh_at)) }
+    requires limits { SurveyLimits (survey_with f s.now (diameter_units found.d1) (diameter_units found.d2)) }
     ensures { result ≡ survey_with f s.now (diameter_units found.d1) (diameter_units found.d2) }
 {
     Survey {
         tank: tank_of(s, found),
         step: word(s, layout::STEP),
-        deadwood: items(f, s),
+        items: items(f, s),
         count: deadwood(f, s).count,
     }
 }
@@ -89,18 +117,16 @@ fn decode_as(f: Format, s: &[u8]) -> Result<Survey, Refusal>
     Ok(survey_of(f, s, found))
 }
 
-// A file of any bytes, of any length. A survey that is not refused is within its limits.
+// A file of any bytes, of any length.
 pub fn decode(s: &[u8]) -> Result<Survey, Refusal>
-    ensures value { result ≡ decoded s.now }
-    ensures within_limits { WithinLimits result }
+    ensures { result ≡ decoded s.now }
 {
     decode_as(Format::today(), s)
 }
 
 // .. with a header of 48 bytes.
 pub fn decode_48(s: &[u8]) -> Result<Survey, Refusal>
-    ensures value { result ≡ decoded_as format48 s.now }
-    ensures within_limits { WithinLimits result }
+    ensures { result ≡ decoded_as format48 s.now }
 {
     decode_as(Format::header_of_48(), s)
 }

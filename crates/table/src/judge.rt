@@ -1,7 +1,6 @@
 // Whether a file's table can be made by whoever has room for so many rows. Nothing is written.
 ghost use Rattle.std.specs.Prelude.{◌≡◌};
 ghost use Rattle.refusal.specs.Test.{verdict};
-ghost use Rattle.survey.specs.SurveyLaws.{SurveyLimits, WithinLimits};
 ghost use Rattle.row_tests.specs.Tests.{table_tests};
 ghost use Rattle.table.specs.Answer.{verdict_on};
 
@@ -12,7 +11,6 @@ use schedule::MOST_ROWS;
 use survey::decode::Survey;
 
 fn rows_judged(v: Survey, cells: usize) -> Result<(), Refusal>
-    requires { SurveyLimits v }
     ensures { result ≡ verdict (table_tests v cells) }
 {
     let rows = rows_in(v);
@@ -23,7 +21,6 @@ fn rows_judged(v: Survey, cells: usize) -> Result<(), Refusal>
 
 // Refusals 1 to 9 and 14, for a lent table of so many cells.
 pub fn judged(file: Result<Survey, Refusal>, cells: usize) -> Result<(), Refusal>
-    requires { WithinLimits file }
     ensures { result ≡ verdict_on file cells }
 {
     rows_judged(file?, cells)

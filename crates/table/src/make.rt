@@ -2,7 +2,6 @@
 ghost use Rattle.std.specs.Prelude.{◌≡◌, length};
 ghost use Rattle.refusal.specs.Test.{verdict};
 ghost use Rattle.survey.specs.Survey.{decoded, survey_in};
-ghost use Rattle.survey.specs.SurveyLaws.{SurveyLimits, WithinLimits};
 ghost use Rattle.rows.specs.Rows.{rows_in, cell_of};
 ghost use Rattle.row_tests.specs.Tests.{table_tests};
 ghost use Rattle.row_tests.specs.Left.{left_by};
@@ -44,7 +43,6 @@ impl From<Refusal> for NumberedRefusal {
 
 // The rows of a survey that is not refused into the table: worked out apart, tested, and copied last.
 fn fill(v: Survey, table: &mut [u32]) -> Result<(), Refusal>
-    requires { SurveyLimits v }
     ensures value { result ≡ verdict (table_tests v (length table.old)) }
     ensures table_after { table.new ≡ left_by result (cell_of v) (rows_in v) table.old }
 {
@@ -56,7 +54,6 @@ fn fill(v: Survey, table: &mut [u32]) -> Result<(), Refusal>
 
 // The verdict on a decoded file and its rows, with what it is about, and the rows in the table where nothing is refused.
 pub fn filled(file: Result<Survey, Refusal>, table: &mut [u32]) -> Result<(), Refusal>
-    requires { WithinLimits file }
     ensures value { result ≡ verdict_on file (length table.old) }
     ensures table_after { table.new ≡ table_left file table.old }
 {
@@ -66,7 +63,6 @@ pub fn filled(file: Result<Survey, Refusal>, table: &mut [u32]) -> Result<(), Re
 // From a decoded file and any table: the whole answer, what the table holds afterwards, and of every row that was written that it is
 // the net row, and condition 3.
 pub fn tabulate(file: Result<Survey, Refusal>, table: &mut [u32]) -> Result<Made, NumberedRefusal>
-    requires { WithinLimits file }
     ensures value { result ≡ made file (length table.old) }
     ensures table_after { table.new ≡ table_left file table.old }
     ensures net_rows { EveryRow NetRowAt (survey_in file) result table.new }

@@ -1,14 +1,8 @@
 -- `survey::decode::decode` meets its contract: today's format can be read. Assumes nothing.
 use Rattle.std.proofs.Common.{◌∙◌, ap}
 use Rattle.survey.specs.Survey.{decoded_as, decoded}
-use Rattle.survey.proofs.SurveyLaws.{decoded_fits}
 use Rattle.survey.proofs.decode.decode.Goals as goal
 
-pub returns-clause-value : goal.returns-clause-value
+pub returns : goal.returns
 unfolding decoded
-returns-clause-value c = c.decode_as.ensures ∙ ap (λ f. decoded_as f c.args.s.now) c.today.ensures
-
-pub returns-clause-within_limits : goal.returns-clause-within_limits
-unfolding decoded
-returns-clause-within_limits c =
-    rw (c.decode_as.ensures ∙ ap (λ f. decoded_as f c.args.s.now) c.today.ensures) (decoded_fits c.args.s.now)
+returns c = c.decode_as.ensures ∙ ap (λ f. decoded_as f c.args.s.now) c.today.ensures

@@ -12,4 +12,7 @@ survey_of-requires c =
     let s = c.args.s.now in
     let told = told_found f s (verdict (file_tests f s)) (sym c.in_ok-found.ensures.value) in
     let readable = c.in_ok-found.ensures.readable in
-    ((passed_file f s readable told.0).0.placed, told.1, rw (told.2, told.3) (survey_fits f s readable told.0).tank)
+    record {
+      file = ((passed_file f s readable told.0).0.placed, told.1);
+      limits = rw (told.2, told.3) (survey_fits f s readable told.0);
+    }

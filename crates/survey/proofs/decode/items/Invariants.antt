@@ -4,7 +4,7 @@ use Rattle.std.proofs.Common.{◌≡◌}
 use Rattle.laws.specs.FillLaws.{Filled}
 use Rattle.file.specs.Section.{record_at}
 use Rattle.records.specs.Item.{item_from}
-use Rattle.survey.specs.Survey.{no_items}
+use Rattle.survey.specs.Held.{no_items}
 use Rattle.survey.proofs.decode.items.Given as goal
 
 abbrev pub invariant-loop-i : goal.invariant-loop-i
