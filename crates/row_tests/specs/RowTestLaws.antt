@@ -1,10 +1,10 @@
 -- The tests of a table look at nothing but the rows, in memory or not, and their numbers are in use; and what they say where they refuse nothing: no
 -- row falls, and none is below zero, though none is tested for that. Assumes nothing.
-use Rattle.std.specs.Prelude.{ℕ, zero, suc, ◌-◌, ◌≤◌, ◌<◌, ◌≡◌, refl, true, List, ◌++◌, leb, ℤ, pos, negsuc, nat_abs, drop, Ok, Err}
-use Rattle.std.proofs.Common.{sym, ap, arith, le-leb, leb-true}
+use Rattle.std.specs.Prelude.{ℕ, zero, suc, ◌-◌, ◌≤◌, ◌<◌, ◌≡◌, refl, true, List, [], ◌++◌, length, leb, ℤ, pos, negsuc, nat_abs, drop, Ok, Err}
+use Rattle.std.proofs.Common.{sym, ap, arith, append-nil, le-leb, leb-true}
 use Rattle.std.specs.Int.Signed.{le_z, non_neg}
 use Rattle.laws.specs.Fill.{rows_of}
-use Rattle.laws.specs.FillLaws.{rows_of_agree}
+use Rattle.laws.specs.FillLaws.{length_rows_of, rows_of_agree}
 use Rattle.laws.specs.BoolLaws.{true_not_false}
 use Rattle.refusal.specs.declared.Refusal.{Refusal}
 use Rattle.refusal.specs.Test.{about, verdict, items, Verdict}
@@ -55,6 +55,14 @@ pub front_left : (v : Verdict) (f : ℕ → ℤ) (n : ℕ) (rest : List ℤ) (ta
 front_left (Ok tt) f n rest table =
     ap (λ l. l ++ drop n table) (rows_of_agree (cell_in (rows_of f n ++ rest)) (λ i. nat_abs (f i)) n (λ i l. ap nat_abs (front_row f n rest i l)))
 front_left (Err r) f n rest table = refl
+
+-- the same of rows that are a list's all
+module _ (f : ℕ → ℤ) (n : ℕ) where
+  pub memory_tests : (height : ℕ → ℕ) (cells : ℕ) → row_tests (net_of (rows_of f n)) height (length (rows_of f n)) cells ≡ row_tests f height n cells
+  memory_tests height cells = rw (length_rows_of f n) (rw (append-nil (rows_of f n)) at (front_tests f height n [] cells))
+
+  pub memory_left : (v : Verdict) (table : List ℕ) → left_by v (cell_in (rows_of f n)) (length (rows_of f n)) table ≡ left_by v (λ i. nat_abs (f i)) n table
+  memory_left v table = rw (length_rows_of f n) (rw (append-nil (rows_of f n)) at (front_left v f n [] table))
 
 -- every refusal of rows has a number in use and a sentence
 pub rows_known : (v : Survey) (cells : ℕ) → KnownIn (verdict (table_tests v cells))

@@ -13,27 +13,22 @@ use schedule::Schedule;
 
 // The rows fit their cells.
 #[tactic(auto, using(laws::specs::FillLaws::filled_none))]
-fn copy_rows(net: &[i64], rows: usize, table: &mut [u32])
-    requires { (rows ≤ length net.now) × (rows ≤ length table.old) × ((i : ℕ) → i < rows → cell_in net.now i < 2 ^ 32) }
-    ensures { table.new ≡ rows_of (cell_in net.now) rows ++ drop rows table.old }
+fn copy_rows(net: &[i64], table: &mut [u32])
+    requires { (length net.now ≤ length table.old) × ((i : ℕ) → i < length net.now → cell_in net.now i < 2 ^ 32) }
+    ensures { table.new ≡ rows_of (cell_in net.now) (length net.now) ++ drop (length net.now) table.old }
 {
-    for i in 0..rows {
+    for i in 0..net.len() {
         table[i] = net[i].unsigned_abs() as u32;
     }
 }
 
 // Refusals 8 and 9 on rows in memory; a table that is refused is not touched.
-pub fn test_and_copy(
-    net: &[i64],
-    schedule: Schedule,
-    rows: usize,
-    table: &mut [u32],
-) -> Result<(), Refusal>
-    requires { (rows ≤ length net.now) × (rows < 2 ^ 32) × (rows ≡ row_count schedule.dh schedule.step) × ((i : ℕ) → i < rows → cell_in net.now i < 2 ^ 32) }
-    ensures value { result ≡ verdict (row_tests (net_of net.now) (row_height schedule.dh schedule.step) rows (length table.old)) }
-    ensures table_after { table.new ≡ left_by result (cell_in net.now) rows table.old }
+pub fn test_and_copy(net: &[i64], schedule: Schedule, table: &mut [u32]) -> Result<(), Refusal>
+    requires { (length net.now < 2 ^ 32) × (length net.now ≡ row_count schedule.dh schedule.step) × ((i : ℕ) → i < length net.now → cell_in net.now i < 2 ^ 32) }
+    ensures value { result ≡ verdict (row_tests (net_of net.now) (row_height schedule.dh schedule.step) (length net.now) (length table.old)) }
+    ensures table_after { table.new ≡ left_by result (cell_in net.now) (length net.now) table.old }
 {
-    rows_tested(net, schedule, rows, table.len())?;
-    copy_rows(net, rows, table);
+    rows_tested(net, schedule, table.len())?;
+    copy_rows(net, table);
     Ok(())
 }

@@ -1,12 +1,13 @@
 // The rows of a survey's table: how many, and the net volumes, worked out from the bottom up. The caller's table is not touched here.
 #![tactic(auto)]
 
-ghost use Rattle.std.specs.Prelude.{◌≡◌, ◌++◌, ◌≤◌, length, drop};
+ghost use Rattle.std.specs.Prelude.{◌≡◌, ℕ, ◌^◌, ◌≤◌, ◌<◌, length};
 ghost use Rattle.laws.specs.Fill.{rows_of};
 ghost use Rattle.measure.specs.Quantity.{dip_units, diameter_units};
 ghost use Rattle.schedule.specs.Rows.{most_rows};
 ghost use Rattle.tank.specs.FillingLaws.{filling_at};
 ghost use Rattle.rows.specs.Rows.{rows_in, net_at, net_row};
+ghost use Rattle.rows.specs.RowLaws.{cell_in};
 
 use deadwood::sum::sum_of_shares;
 use measure::dip_height::DipHeight;
@@ -40,16 +41,17 @@ fn net_at(survey: &Survey, filling: Filling, h: DipHeight) -> i64
     i64::from(filling.gross(survey.tank, h).units()) - sum_of_shares(survey.deadwood(), h)
 }
 
-// The net rows into the front of `out`.
+// The net rows into `out`, which has room for just them. Each fits a cell.
 #[tactic(auto, using(laws::specs::FillLaws::filled_none))]
-pub fn net_rows(survey: Survey, rows: usize, out: &mut [i64])
-    requires { (rows ≡ rows_in survey) × (rows ≤ length out.old) }
-    ensures { out.new ≡ rows_of (net_row survey) rows ++ drop rows out.old }
+pub fn net_rows(survey: Survey, out: &mut [i64])
+    requires { length out.old ≡ rows_in survey }
+    ensures rows { out.new ≡ rows_of (net_row survey) (rows_in survey) }
+    ensures fit_cells { (i : ℕ) → i < rows_in survey → cell_in out.new i < 2 ^ 32 }
 {
     let schedule = schedule_of(survey);
     let tank = survey.tank;
     let mut filling = Filling::empty();
-    for i in 0..rows {
+    for i in 0..out.len() {
         let h = schedule.height(i);
         filling = filling.on_to(tank, h);
         out[i] = net_at(&survey, filling, h);

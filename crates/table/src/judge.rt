@@ -14,9 +14,10 @@ fn rows_judged(v: Survey, cells: usize) -> Result<(), Refusal>
     ensures { result ≡ verdict (table_tests v cells) }
 {
     let rows = rows_in(v);
-    let mut net = [0i64; MOST_ROWS];
-    net_rows(v, rows, &mut net);
-    rows_tested(&net, schedule_of(v), rows, cells)
+    let mut room = [0i64; MOST_ROWS];
+    let net = &mut room[..rows];
+    net_rows(v, net);
+    rows_tested(net, schedule_of(v), cells)
 }
 
 // Refusals 1 to 9 and 14, for a lent table of so many cells.

@@ -47,9 +47,10 @@ fn fill(v: Survey, table: &mut [u32]) -> Result<(), Refusal>
     ensures table_after { table.new ≡ left_by result (cell_of v) (rows_in v) table.old }
 {
     let rows = rows_in(v);
-    let mut net = [0i64; MOST_ROWS];
-    net_rows(v, rows, &mut net);
-    test_and_copy(&net, schedule_of(v), rows, table)
+    let mut room = [0i64; MOST_ROWS];
+    let net = &mut room[..rows];
+    net_rows(v, net);
+    test_and_copy(net, schedule_of(v), table)
 }
 
 // The verdict on a decoded file and its rows, with what it is about, and the rows in the table where nothing is refused.

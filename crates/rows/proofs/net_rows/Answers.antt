@@ -1,10 +1,12 @@
 -- `rows::net_rows` meets its contract: each row's filling has not passed the next row's height, and what is stored is the net row. Assumes nothing.
 use Rattle.std.proofs.Common.{arith, rules, ◌≡◌, ◌∙◌, ap, w64, to_z, of_z}
-use Rattle.laws.specs.FillLaws.{filled_more}
+use Rattle.laws.specs.FillLaws.{filled_more, filled_all}
 use Rattle.measure.specs.Quantity.{dip_units, diameter_units}
 use Rattle.schedule.specs.RowsLaws.{height_next}
 use Rattle.tank.specs.FillingLaws.{not_past}
-use Rattle.rows.specs.Rows.{net_at, height_of}
+use Rattle.survey.specs.SurveyLaws.{SurveyLimits}
+use Rattle.rows.specs.Rows.{net_at, height_of, net_row}
+use Rattle.rows.specs.RowLaws.{net_small, front_row}
 use Rattle.rows.proofs.net_rows.Goals as goal
 
 pub loop-i-preserved : goal.loop-i-preserved
@@ -19,3 +21,10 @@ loop-i-preserved c =
       rw (c.on_to-filling.ensures, height, ap (λ w. w.tank) is) (not_past v.tank _ _ (height_next (diameter_units v.tank.dh) v.step (omega (arith, c.survey.invariant.limits.step_low, ap (λ w. w.step) is)) i)),
       rw (plain ∙ c.net_at.ensures ∙ ap (net_at v) height) (filled_more (omega (arith, c.loop-i.invariant.1.size)) c.loop-i.invariant.1),
     )
+
+pub returns-clause-fit_cells : goal.returns-clause-fit_cells
+returns-clause-fit_cells c =
+    let v = c.args.survey in
+    let l = c.loop-i in
+    let limits : SurveyLimits v = rw (← c.survey.view_is) c.survey.invariant.limits in
+    λ i inside. rw (filled_all l.invariant.1, front_row (net_row v) l.i _ i (omega (arith, inside, c.requires, c.loop-i-test.false, l.invariant.1.size))) (net_small v (height_of v i) limits)

@@ -4,6 +4,7 @@ use Rattle.std.proofs.Common.{◌≡◌, ◌∙◌, ap, length, List, ℕ}
 use Rattle.std.proofs.lemmas.Result.{err_from_is_err_and}
 use Rattle.survey.specs.declared.decode.Survey.{Survey}
 use Rattle.survey.specs.Survey.{Decoded, survey_in}
+use Rattle.survey.specs.SurveyLaws.{SurveyLimits, WithinLimits}
 use Rattle.rows.specs.Rows.{rows_in, cell_of}
 use Rattle.row_tests.specs.Left.{left_by}
 use Rattle.table.specs.declared.make.Made.{Made}
@@ -38,7 +39,10 @@ returns-in_err-fill-clause-table_after c =
 
 pub returns-clause-value : goal.returns-clause-value
 unfolding made
-returns-clause-value c = rw (c.in_ok-v.was, ← c.in_ok-fill.ensures.value, c.rows_in.ensures.0)
+returns-clause-value c =
+    let tank = c.v-inside.view_is in
+    let survey = c.v.view_is in
+    rw (c.in_ok-v.was, ← c.in_ok-fill.ensures.value, c.rows_in.ensures.0, ap (λ v. v.tank.d1) tank, ap (λ v. v.tank.d2) tank, ap (λ v. v.tank.d1) survey, ap (λ v. v.tank.d2) survey)
 
 pub returns-clause-table_after : goal.returns-clause-table_after
 unfolding table_left
@@ -61,4 +65,6 @@ returns-clause-net_rows c =
 pub returns-clause-condition3 : goal.returns-clause-condition3
 returns-clause-condition3 c =
     let a = c.args in
-    told Condition3At a.file a.table.now (returns-clause-value c) (returns-clause-table_after c) (condition3_left a.file a.table.now c.requires)
+    let limits : SurveyLimits c.in_ok-v.v = rw (← c.v.view_is) c.v.invariant.limits in
+    let within : WithinLimits a.file = rw c.in_ok-v.was (λ e. limits) in
+    told Condition3At a.file a.table.now (returns-clause-value c) (returns-clause-table_after c) (condition3_left a.file a.table.now within)
