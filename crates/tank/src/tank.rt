@@ -35,6 +35,7 @@ impl Model for Tank {
 }
 
 impl Tank {
+    // The heads at both ends.
     pub(crate) fn heads(self) -> Heads
         ensures { (result.kind ≡ self.kind) × (result.d ≡ self.d2) × (result.l ≡ self.l3) }
     {
