@@ -1,5 +1,5 @@
 -- `rows::net_rows` meets its contract: each row's filling has not passed the next row's height, and what is stored is the net row. Assumes nothing.
-use Rattle.std.proofs.Common.{arith, rules, ◌≡◌, ◌∙◌, ap, ℕ, w64, to_z, of_z}
+use Rattle.std.proofs.Common.{arith, rules, ◌≡◌, ◌∙◌, ap, w64, to_z, of_z}
 use Rattle.laws.specs.FillLaws.{filled_more}
 use Rattle.measure.specs.Quantity.{dip_units, diameter_units}
 use Rattle.schedule.specs.RowsLaws.{height_next}
