@@ -10,7 +10,6 @@ ghost use Rattle.file.specs.Limits.{most_courses};
 ghost use Rattle.dimensions.specs.Dimensions.{allowance, outer_diameter, wall, shell_diameter, head_diameter, diameter_fits};
 ghost use Rattle.dimensions.specs.Tests.{lengths_test, diameter_test, diameter_tests, head_length_test};
 ghost use Rattle.dimensions.specs.Judged.{judged_with};
-ghost use Rattle.dimensions.specs.SumLaws.{SumsSmall};
 
 use crate::sums::Sums;
 use arith::nearest::nearest_quotient;
@@ -38,7 +37,6 @@ pub struct Diameters {
 
 // How far the lengths may lie from L1.
 fn allowance(t: Sums) -> u64
-    requires { SumsSmall t }
     ensures { result ≡ allowance t }
 {
     COURSE_ALLOWANCE * t.count
@@ -46,7 +44,7 @@ fn allowance(t: Sums) -> u64
 
 // Refusal 6: whether the lengths are as near to L1 as that.
 pub(crate) fn lengths_tested(t: Sums, l1: u32) -> Result<(), Refusal>
-    requires { SumsSmall t × (allowance t ≤ l1) × (l1 + allowance t < 2 ^ 32) }
+    requires { (allowance t ≤ l1) × (l1 + allowance t < 2 ^ 32) }
     ensures { result ≡ verdict (lengths_test t l1 ∷ []) }
 {
     let most = allowance(t) as u32;
@@ -65,7 +63,7 @@ fn outer_diameter(readings: u64, lengths: u64) -> u64
 // Twice the mean thickness.
 #[tactic(auto, unfolding(crate::specs::Dimensions::wall))]
 fn wall(t: Sums) -> u64
-    requires { SumsSmall t × (1 ≤ t.count) }
+    requires { 1 ≤ t.count }
     ensures { result ≡ wall t.thicknesses t.count }
 {
     nearest_quotient(2 * t.thicknesses, t.count)
@@ -74,7 +72,7 @@ fn wall(t: Sums) -> u64
 // D1, from the courses.
 #[tactic(auto, unfolding(crate::specs::Dimensions::shell_diameter))]
 pub(crate) fn shell_diameter(t: Sums) -> u64
-    requires { SumsSmall t × (1 ≤ t.lengths) × (1 ≤ t.count) }
+    requires { 1 ≤ t.count }
     ensures { result ≡ shell_diameter t }
 {
     outer_diameter(t.readings, t.lengths).saturating_sub(wall(t))
@@ -83,7 +81,7 @@ pub(crate) fn shell_diameter(t: Sums) -> u64
 // D2, of flange and head, from the circumferences at the shell's ends.
 #[tactic(auto, unfolding(crate::specs::Dimensions::head_diameter))]
 pub(crate) fn head_diameter(t: Sums, left: u32, right: u32) -> u64
-    requires { SumsSmall t × (1 ≤ t.count) }
+    requires { 1 ≤ t.count }
     ensures { result ≡ head_diameter t left right }
 {
     outer_diameter(u64::from(left) + u64::from(right), 1).saturating_sub(wall(t))

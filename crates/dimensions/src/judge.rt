@@ -8,7 +8,6 @@ ghost use Rattle.file.specs.Word.{word};
 ghost use Rattle.file.specs.Layout.{header_end, kind_at, dh_at, left_at, right_at, l3_at};
 ghost use Rattle.readings.specs.FitLaws.{NumbersFit};
 ghost use Rattle.dimensions.specs.Dimensions.{shell_diameter, head_diameter};
-ghost use Rattle.dimensions.specs.SumLaws.{SumsSmall};
 ghost use Rattle.dimensions.specs.Tests.{head_length_test, dimension_tests};
 ghost use Rattle.dimensions.specs.Judged.{diameters_judged, judged_by};
 
@@ -24,7 +23,7 @@ use refusal::Refusal;
 
 // The diameters of a file with these sums.
 fn diameters_in(s: &[u8], t: Sums) -> Result<Diameters, Refusal>
-    requires sums_small { (header_end ≤ length s.now) × SumsSmall t × (1 ≤ t.lengths) × (1 ≤ t.count) }
+    requires some_course { (header_end ≤ length s.now) × (1 ≤ t.count) }
     requires diameters_small { (smallest ≤ word s.now dh_at) × (word s.now dh_at ≤ largest) × (shell_diameter t < 2 ^ 63) × (head_diameter t (word s.now left_at) (word s.now right_at) < 2 ^ 32) }
     ensures { result ≡ diameters_judged s.now t }
 {
