@@ -18,9 +18,9 @@ use std::ops::Add;
 pub struct Sums {
     // (first + second circumference) · length
     pub readings: u64,
-    pub lengths: u64,
-    pub thicknesses: u64,
-    pub count: u64,
+    pub lengths: u32,
+    pub thicknesses: u32,
+    pub count: u32,
 }
 
 impl Model for Sums {
@@ -28,14 +28,12 @@ impl Model for Sums {
 
     ghost Value = { CourseSums };
 
-    ghost use Rattle.std.specs.Prelude.{◌≤◌};
-    ghost use Rattle.file.specs.Limits.{most_courses};
     ghost use Rattle.dimensions.specs.Dimensions.{sums};
-    ghost use Rattle.dimensions.specs.SumLaws.{SumsOf};
+    ghost use Rattle.dimensions.specs.SumLaws.{SumsFit};
 
     ghost view = { sums };
 
-    ghost invariant = { λ t. SumsOf t.count (sums t) × (t.count ≤ most_courses) };
+    ghost invariant = { λ t. SumsFit (sums t) };
 
     ghost inverse = { λ t. record { readings = t.readings; lengths = t.lengths; thicknesses = t.thicknesses; count = t.count } };
 }
@@ -69,12 +67,11 @@ fn sum_of(s: &[u8], at: usize, rise: u64) -> Sums
 {
     let first = corrected_at(s, at + layout::FIRST_CIRCUMFERENCE, rise);
     let second = corrected_at(s, at + layout::SECOND_CIRCUMFERENCE, rise);
-    let length = word(s, at + layout::COURSE_LENGTH) as u64;
-    let thickness = word(s, at + layout::THICKNESS) as u64;
+    let length = word(s, at + layout::COURSE_LENGTH);
     Sums {
-        readings: (first + second) * length,
+        readings: (first + second) * u64::from(length),
         lengths: length,
-        thicknesses: thickness,
+        thicknesses: word(s, at + layout::THICKNESS),
         count: 1,
     }
 }
