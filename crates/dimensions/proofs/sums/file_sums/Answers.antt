@@ -4,7 +4,7 @@ use Rattle.file.specs.Layout.{course_end}
 use Rattle.file.specs.Section.{courses, record_at}
 use Rattle.readings.specs.Reading.{rise_of}
 use Rattle.readings.specs.FitLaws.{as_they_stand, courses_fit}
-use Rattle.dimensions.specs.Dimensions.{sum_of, added, sums_over, sums_of}
+use Rattle.dimensions.specs.Dimensions.{sum_of, added, sums_over}
 use Rattle.dimensions.specs.SumLaws.{sums_fit, file_sums_fit}
 use Rattle.dimensions.proofs.sums.file_sums.Goals as goal
 
