@@ -12,6 +12,7 @@ use Rattle.file.specs.Layout.{left_at, right_at, first_in, second_in, length_in,
 use Rattle.file.specs.Section.{courses, record_at}
 use Rattle.readings.specs.Reading.{rise_of, corrected}
 use Rattle.dimensions.specs.declared.sums.Sums.{Sums}
+use Rattle.dimensions.specs.declared.sums.Sums.TheInside.{Inside}
 
 -- how far the course lengths together may lie from L1, for each course
 abbrev pub course_allowance : ℕ
@@ -20,6 +21,10 @@ course_allowance = 100
 -- how far a diameter may lie from DH
 abbrev pub farthest : ℕ
 farthest = 10000
+
+-- what is said of sums: the numbers that their fields have
+abbrev pub sums : Inside → Sums
+sums t = record { readings = t.readings; lengths = t.lengths; thicknesses = t.thicknesses; count = t.count }
 
 -- what the course at a byte adds to the sums: (first + second circumference) · length, its length, its thickness. Both circumferences have
 -- lost the tape rise

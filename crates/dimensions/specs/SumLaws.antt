@@ -1,5 +1,5 @@
 -- How large the sums over courses within their limits can be, and D1 and D2, which are no more than what they are made of. Assumes nothing.
-use Rattle.std.specs.Prelude.{ℕ, zero, suc, ◌+◌, ◌*◌, ◌^◌, ◌≤◌, ◌<◌, ◌≡◌, List}
+use Rattle.std.specs.Prelude.{ℕ, zero, suc, ◌+◌, ◌-◌, ◌*◌, ◌^◌, ◌≤◌, ◌<◌, ◌≡◌, List}
 use Rattle.std.proofs.Common.{le_refl, mul-le-mul, mul-le-mul_left, arith}
 use Rattle.laws.proofs.NearestLaws.{nearest_at_most}
 use Rattle.measure.specs.Pi.{pi_over, pi_under}
@@ -15,7 +15,7 @@ use Rattle.readings.specs.CourseLaws.{CourseFits, CoursesFit}
 use Rattle.readings.specs.FitLaws.{NumbersFit, as_they_stand, courses_fit}
 use Rattle.numbers.specs.FitLaws.{ends_fit}
 use Rattle.dimensions.specs.declared.sums.Sums.{Sums}
-use Rattle.dimensions.specs.Dimensions.{sum_of, sums_over, sums_of, outer_diameter, shell_diameter, head_diameter, d1, d2}
+use Rattle.dimensions.specs.Dimensions.{sum_of, sums_over, sums_of, outer_diameter, wall, shell_diameter, head_diameter, d1, d2}
 
 -- the largest that a course adds
 abbrev pub most_reading : ℕ
@@ -28,6 +28,12 @@ pub record SumsOf (n : ℕ) (t : Sums) : Type 0 where
   pub some : n ≤ t.lengths
   pub thicknesses : t.thicknesses ≤ n * thickest
   pub count : t.count ≡ n
+
+-- sums over the courses that they count, no more than a file can have, whose circumferences are no longer than they may be
+pub record SumsFit (t : Sums) : Type 0 where
+  pub of : SumsOf t.count t
+  pub few : t.count ≤ most_courses
+  pub pairs : t.readings ≤ 2 * longest_circumference * t.lengths
 
 -- sums over as many courses as a file can have
 pub record SumsSmall (t : Sums) : Type 0 where
@@ -90,6 +96,18 @@ outer_at_most readings lengths some =
     let dividend = pi_under * readings in
     let divisor : 1 ≤ 2 * pi_over * lengths = omega arith in
     nearest_at_most dividend dividend (2 * pi_over * lengths) divisor (omega (arith, mul-le-mul_left dividend divisor))
+
+-- an outer diameter has 32 bits where a pair of circumferences has 33, and so has any wall
+
+pub outer_fits : (readings lengths : ℕ) → readings < 2 ^ 33 * lengths → outer_diameter readings lengths < 2 ^ 32
+unfolding outer_diameter
+outer_fits readings lengths less =
+    let most = nearest_at_most (pi_under * readings) (2 ^ 32 - 1) (2 * pi_over * lengths) (omega (arith, less)) (omega (arith, less)) in
+    omega (arith, most)
+
+pub wall_fits : (t : Sums) → SumsFit t → 1 ≤ t.count → wall t.thicknesses t.count < 2 ^ 32
+unfolding wall
+wall_fits t fit some = omega (arith, nearest_at_most (2 * t.thicknesses) (2 * thickest) t.count some (omega (arith, fit.of.thicknesses)))
 
 pub diameters_small : (f : Format) (s : List ℕ) → NumbersFit f s → (d1 f s < 2 ^ 63) × (d2 f s < 2 ^ 32)
 unfolding shell_diameter head_diameter

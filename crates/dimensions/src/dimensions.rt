@@ -5,12 +5,9 @@ ghost use Rattle.measure.specs.Diameter.{smallest, largest};
 ghost use Rattle.measure.specs.Pi.{pi_under};
 ghost use Rattle.measure.specs.Quantity.{diameter, diameter_units};
 ghost use Rattle.refusal.specs.Test.{verdict, refusal_of};
-ghost use Rattle.tank.specs.Limits.{longest_shell};
-ghost use Rattle.file.specs.Limits.{most_courses};
 ghost use Rattle.dimensions.specs.Dimensions.{allowance, outer_diameter, wall, shell_diameter, head_diameter, diameter_fits};
 ghost use Rattle.dimensions.specs.Tests.{lengths_test, diameter_test, diameter_tests, head_length_test};
 ghost use Rattle.dimensions.specs.Judged.{judged_with};
-ghost use Rattle.dimensions.specs.SumLaws.{SumsSmall};
 
 use crate::sums::Sums;
 use arith::nearest::nearest_quotient;
@@ -23,7 +20,7 @@ use refusal::{Refusal, about_of, limited, one_test};
 use sentences::{OF_HEAD_DIAMETER, OF_HEAD_LENGTH, OF_LENGTHS, OF_SHELL_DIAMETER};
 
 // How far the course lengths together may lie from L1, for each course.
-const COURSE_ALLOWANCE: u64 = 100;
+const COURSE_ALLOWANCE: u32 = 100;
 
 // How far a diameter may lie from DH.
 const FARTHEST: u64 = 10_000;
@@ -37,8 +34,7 @@ pub struct Diameters {
 }
 
 // How far the lengths may lie from L1.
-fn allowance(t: Sums) -> u64
-    requires { SumsSmall t }
+fn allowance(t: Sums) -> u32
     ensures { result ≡ allowance t }
 {
     COURSE_ALLOWANCE * t.count
@@ -46,35 +42,43 @@ fn allowance(t: Sums) -> u64
 
 // Refusal 6: whether the lengths are as near to L1 as that.
 pub(crate) fn lengths_tested(t: Sums, l1: u32) -> Result<(), Refusal>
-    requires { SumsSmall t × (allowance t ≤ l1) × (l1 + allowance t < 2 ^ 32) }
+    requires { (allowance t ≤ l1) × (l1 + allowance t < 2 ^ 32) }
     ensures { result ≡ verdict (lengths_test t l1 ∷ []) }
 {
-    let most = allowance(t) as u32;
-    limited(6, 0, OF_LENGTHS, 0, l1 - most, t.lengths, l1 + most)
+    let most = allowance(t);
+    limited(
+        6,
+        0,
+        OF_LENGTHS,
+        0,
+        l1 - most,
+        u64::from(t.lengths),
+        l1 + most,
+    )
 }
 
 // Of circumferences, in pairs, weighted by lengths.
-#[tactic(auto, unfolding(crate::specs::Dimensions::outer_diameter))]
-fn outer_diameter(readings: u64, lengths: u64) -> u64
-    requires { (pi_under * readings < 2 ^ 63) × (1 ≤ lengths) × (lengths ≤ most_courses * longest_shell) }
+#[tactic(auto, unfolding(crate::specs::Dimensions::outer_diameter), using(crate::specs::SumLaws::outer_fits))]
+fn outer_diameter(readings: u64, lengths: u32) -> u32
+    requires { (pi_under * readings < 2 ^ 63) × (readings < 2 ^ 33 * lengths) }
     ensures { result ≡ outer_diameter readings lengths }
 {
-    nearest_quotient(PI_UNDER * readings, 2 * PI_OVER * lengths)
+    nearest_quotient(PI_UNDER * readings, 2 * PI_OVER * u64::from(lengths)) as u32
 }
 
 // Twice the mean thickness.
-#[tactic(auto, unfolding(crate::specs::Dimensions::wall))]
-fn wall(t: Sums) -> u64
-    requires { SumsSmall t × (1 ≤ t.count) }
+#[tactic(auto, unfolding(crate::specs::Dimensions::wall), using(crate::specs::SumLaws::wall_fits))]
+fn wall(t: Sums) -> u32
+    requires { 1 ≤ t.count }
     ensures { result ≡ wall t.thicknesses t.count }
 {
-    nearest_quotient(2 * t.thicknesses, t.count)
+    nearest_quotient(2 * u64::from(t.thicknesses), u64::from(t.count)) as u32
 }
 
 // D1, from the courses.
 #[tactic(auto, unfolding(crate::specs::Dimensions::shell_diameter))]
-pub(crate) fn shell_diameter(t: Sums) -> u64
-    requires { SumsSmall t × (1 ≤ t.lengths) × (1 ≤ t.count) }
+pub(crate) fn shell_diameter(t: Sums) -> u32
+    requires { 1 ≤ t.count }
     ensures { result ≡ shell_diameter t }
 {
     outer_diameter(t.readings, t.lengths).saturating_sub(wall(t))
@@ -82,8 +86,8 @@ pub(crate) fn shell_diameter(t: Sums) -> u64
 
 // D2, of flange and head, from the circumferences at the shell's ends.
 #[tactic(auto, unfolding(crate::specs::Dimensions::head_diameter))]
-pub(crate) fn head_diameter(t: Sums, left: u32, right: u32) -> u64
-    requires { SumsSmall t × (1 ≤ t.count) }
+pub(crate) fn head_diameter(t: Sums, left: u32, right: u32) -> u32
+    requires { 1 ≤ t.count }
     ensures { result ≡ head_diameter t left right }
 {
     outer_diameter(u64::from(left) + u64::from(right), 1).saturating_sub(wall(t))
@@ -91,30 +95,35 @@ pub(crate) fn head_diameter(t: Sums, left: u32, right: u32) -> u64
 
 // The diameter of so many u, where it is within its limits and not far from DH.
 #[tactic(auto, unfolding(crate::specs::Dimensions::diameter_fits))]
-fn fitting(d: u64, dh: u32) -> Option<Diameter>
+fn fitting(d: u32, dh: u32) -> Option<Diameter>
     ensures { result ≡ pick (diameter_fits d dh) (Some (diameter d)) None }
 {
-    if !is_near(d, dh as u64, FARTHEST) {
+    if !is_near(d as u64, dh as u64, FARTHEST) {
         return None;
     }
-    Diameter::of(d)
+    Diameter::of(d as u64)
 }
 
 // Refusal 7 of a diameter, which is compared with DH.
-fn unfit(sentence: u32, dh: u32, d: u64) -> Refusal
-    requires { d < 2 ^ 63 }
+fn unfit(sentence: u32, dh: u32, d: u32) -> Refusal
     ensures { result ≡ refusal_of (diameter_test sentence dh d) }
 {
     Refusal {
         number: 7,
         place: 0,
-        about: about_of(sentence, dh, d, Diameter::SMALLEST, Diameter::LARGEST),
+        about: about_of(
+            sentence,
+            dh,
+            d as u64,
+            Diameter::SMALLEST,
+            Diameter::LARGEST,
+        ),
     }
 }
 
 // DH, D1 and D2; DH is within its limits.
-pub(crate) fn diameters_of(d1: u64, d2: u64, dh: u32) -> Result<Diameters, Refusal>
-    requires { (d1 < 2 ^ 63) × (d2 < 2 ^ 63) × (smallest ≤ dh) × (dh ≤ largest) }
+pub(crate) fn diameters_of(d1: u32, d2: u32, dh: u32) -> Result<Diameters, Refusal>
+    requires { (smallest ≤ dh) × (dh ≤ largest) }
     ensures { result ≡ judged_with (verdict (diameter_tests dh d1 d2)) dh d1 d2 }
 {
     let shell = fitting(d1, dh).ok_or(unfit(OF_SHELL_DIAMETER, dh, d1))?;

@@ -1,14 +1,12 @@
 // Refusals 6, 7 and 14, and the diameters of a file that none of them is given to.
-ghost use Rattle.std.specs.Prelude.{◌≡◌, [], ◌∷◌, ◌^◌, ◌≤◌, ◌<◌, length};
+ghost use Rattle.std.specs.Prelude.{◌≡◌, [], ◌∷◌, ◌≤◌, length};
 ghost use Rattle.measure.specs.Diameter.{smallest, largest};
 ghost use Rattle.measure.specs.Quantity.{diameter_units};
 ghost use Rattle.refusal.specs.Test.{verdict};
 ghost use Rattle.heads.specs.Kind.{kind_of};
 ghost use Rattle.file.specs.Word.{word};
-ghost use Rattle.file.specs.Layout.{header_end, kind_at, dh_at, left_at, right_at, l3_at};
+ghost use Rattle.file.specs.Layout.{header_end, kind_at, dh_at, l3_at};
 ghost use Rattle.readings.specs.FitLaws.{NumbersFit};
-ghost use Rattle.dimensions.specs.Dimensions.{shell_diameter, head_diameter};
-ghost use Rattle.dimensions.specs.SumLaws.{SumsSmall};
 ghost use Rattle.dimensions.specs.Tests.{head_length_test, dimension_tests};
 ghost use Rattle.dimensions.specs.Judged.{diameters_judged, judged_by};
 
@@ -24,8 +22,8 @@ use refusal::Refusal;
 
 // The diameters of a file with these sums.
 fn diameters_in(s: &[u8], t: Sums) -> Result<Diameters, Refusal>
-    requires sums_small { (header_end ≤ length s.now) × SumsSmall t × (1 ≤ t.lengths) × (1 ≤ t.count) }
-    requires diameters_small { (smallest ≤ word s.now dh_at) × (word s.now dh_at ≤ largest) × (shell_diameter t < 2 ^ 63) × (head_diameter t (word s.now left_at) (word s.now right_at) < 2 ^ 32) }
+    requires some_course { (header_end ≤ length s.now) × (1 ≤ t.count) }
+    requires dh_fits { (smallest ≤ word s.now dh_at) × (word s.now dh_at ≤ largest) }
     ensures { result ≡ diameters_judged s.now t }
 {
     let d1 = shell_diameter(t);

@@ -1,25 +1,62 @@
 // The sums over the courses that the dimensions are made of.
-ghost use Rattle.std.specs.Prelude.{◌≡◌, ◌+◌, ◌*◌, ◌≤◌, ◌<◌, length};
+ghost use Rattle.std.specs.Prelude.{◌≡◌, ◌+◌, ◌≤◌, length};
 ghost use Rattle.file.specs.Layout.{course_end};
 ghost use Rattle.readings.specs.CourseLaws.{CourseFits};
 ghost use Rattle.readings.specs.FitLaws.{NumbersFit};
-ghost use Rattle.dimensions.specs.Dimensions.{sum_of, added, sums_of};
-ghost use Rattle.dimensions.specs.SumLaws.{SumsSmall};
+ghost use Rattle.dimensions.specs.Dimensions.{sum_of, sums_of};
 
 use file::format::Format;
 use file::layout;
 use file::section::{courses, record_at};
 use file::word::word;
 use readings::rise::{corrected_at, rise_of};
+use std::marker::Model;
+use std::ops::Add;
 
-// What the dimensions are made of, summed over courses.
+// What the dimensions are made of, summed over courses: no more than a file can have, each within its limits.
 #[derive(Clone, Copy)]
 pub struct Sums {
     // (first + second circumference) · length
     pub readings: u64,
-    pub lengths: u64,
-    pub thicknesses: u64,
-    pub count: u64,
+    pub lengths: u32,
+    pub thicknesses: u32,
+    pub count: u32,
+}
+
+impl Model for Sums {
+    ghost use Rattle.dimensions.specs.CourseSums.{CourseSums};
+
+    ghost Value = { CourseSums };
+
+    ghost use Rattle.dimensions.specs.Dimensions.{sums};
+    ghost use Rattle.dimensions.specs.SumLaws.{SumsFit};
+
+    ghost view = { sums };
+
+    ghost invariant = { λ t. SumsFit (sums t) };
+
+    ghost inverse = { λ t. record { readings = t.readings; lengths = t.lengths; thicknesses = t.thicknesses; count = t.count } };
+}
+
+impl Add for Sums {
+    type Output = Sums;
+
+    ghost use Rattle.std.specs.Prelude.{◌≡◌, ◌+◌, ◌≤◌};
+    ghost use Rattle.file.specs.Limits.{most_courses};
+    ghost use Rattle.dimensions.specs.Dimensions.{added};
+
+    ghost can_add = { λ t u. t.count + u.count ≤ most_courses };
+
+    ghost add_gives = { λ t u r. r ≡ added t u };
+
+    fn add(self, u: Sums) -> Sums {
+        Sums {
+            readings: self.readings + u.readings,
+            lengths: self.lengths + u.lengths,
+            thicknesses: self.thicknesses + u.thicknesses,
+            count: self.count + u.count,
+        }
+    }
 }
 
 // What the course at a byte adds, its circumferences having lost the tape rise.
@@ -30,26 +67,12 @@ fn sum_of(s: &[u8], at: usize, rise: u64) -> Sums
 {
     let first = corrected_at(s, at + layout::FIRST_CIRCUMFERENCE, rise);
     let second = corrected_at(s, at + layout::SECOND_CIRCUMFERENCE, rise);
-    let length = word(s, at + layout::COURSE_LENGTH) as u64;
-    let thickness = word(s, at + layout::THICKNESS) as u64;
+    let length = word(s, at + layout::COURSE_LENGTH);
     Sums {
-        readings: (first + second) * length,
+        readings: (first + second) * u64::from(length),
         lengths: length,
-        thicknesses: thickness,
+        thicknesses: word(s, at + layout::THICKNESS),
         count: 1,
-    }
-}
-
-// `SumsSmall` is no invariant of the type: it would not stay so under this sum. That the courses are at most forty is known of the file, and not here.
-fn add(t: Sums, u: Sums) -> Sums
-    requires { SumsSmall t × SumsSmall u }
-    ensures { result ≡ added t u }
-{
-    Sums {
-        readings: t.readings + u.readings,
-        lengths: t.lengths + u.lengths,
-        thicknesses: t.thicknesses + u.thicknesses,
-        count: t.count + u.count,
     }
 }
 
@@ -58,7 +81,7 @@ fn add(t: Sums, u: Sums) -> Sums
 pub(crate) fn file_sums(f: Format, s: &[u8]) -> Sums
     requires { NumbersFit f s.now }
     ensures value { result ≡ sums_of f s.now }
-    ensures sums_small { SumsSmall result × (1 ≤ result.lengths) × (1 ≤ result.count) }
+    ensures some_course { 1 ≤ result.count }
 {
     let x = courses(f, s);
     let mut t = Sums {
@@ -68,7 +91,7 @@ pub(crate) fn file_sums(f: Format, s: &[u8]) -> Sums
         count: 0,
     };
     for i in 0..x.count {
-        t = add(t, sum_of(s, record_at(x, i), rise_of(f, s, i)));
+        t = t + sum_of(s, record_at(x, i), rise_of(f, s, i));
     }
     t
 }

@@ -14,7 +14,7 @@ use Rattle.readings.specs.FitLaws.{as_they_stand}
 use Rattle.numbers.specs.FitLaws.{dh_fits, shell_fits}
 use Rattle.dimensions.specs.declared.dimensions.Diameters.{Diameters}
 use Rattle.dimensions.specs.Dimensions.{sums_of, d1, d2}
-use Rattle.dimensions.specs.SumLaws.{diameters_small}
+use Rattle.dimensions.specs.SumLaws.{file_sums_fit}
 use Rattle.dimensions.specs.Tests.{lengths_test, diameter_tests, head_length_test, dimension_tests}
 use Rattle.dimensions.specs.Judged.{diameters_judged, judged_by}
 use Rattle.dimensions.specs.JudgedLaws.{told_refused, told_found}
@@ -62,17 +62,14 @@ module _ (f : Format) (s : List ℕ) where
 
 pub lengths_tested-requires : goal.lengths_tested-requires
 lengths_tested-requires c =
-    let sums = c.file_sums-t.ensures.sums_small in
-    let shell = shell_fits c.args.f c.args.s.now (as_they_stand _ _ c.requires) in
-    rw c.word.ensures (sums.0, omega (arith, shell, sums.0.count), omega (arith, shell, sums.0.count))
-
-pub diameters_in-requires-clause-diameters_small : goal.diameters_in-requires-clause-diameters_small
-diameters_in-requires-clause-diameters_small c =
     let f = c.args.f in
     let s = c.args.s.now in
-    let dh = dh_fits f s (as_they_stand f s c.requires) in
-    let small = diameters_small f s c.requires in
-    rw c.file_sums-t.ensures.value (dh.0, dh.1, small.0, small.1)
+    let few = (file_sums_fit f s c.requires).0.count in
+    let shell = shell_fits f s (as_they_stand f s c.requires) in
+    rw (c.word.ensures, c.file_sums-t.ensures.value) (omega (arith, shell, few), omega (arith, shell, few))
+
+pub diameters_in-requires-clause-dh_fits : goal.diameters_in-requires-clause-dh_fits
+diameters_in-requires-clause-dh_fits c = dh_fits c.args.f c.args.s.now (as_they_stand _ _ c.requires)
 
 pub returns-in_err-lengths_tested : goal.returns-in_err-lengths_tested
 returns-in_err-lengths_tested c =

@@ -4,8 +4,8 @@ use Rattle.file.specs.Layout.{course_end}
 use Rattle.file.specs.Section.{courses, record_at}
 use Rattle.readings.specs.Reading.{rise_of}
 use Rattle.readings.specs.FitLaws.{as_they_stand, courses_fit}
-use Rattle.dimensions.specs.Dimensions.{sum_of, added, sums_over, sums_of}
-use Rattle.dimensions.specs.SumLaws.{sum_fits, sums_fit, sums_small, file_sums_fit}
+use Rattle.dimensions.specs.Dimensions.{sum_of, added, sums_over}
+use Rattle.dimensions.specs.SumLaws.{sums_fit, file_sums_fit}
 use Rattle.dimensions.proofs.sums.file_sums.Goals as goal
 
 pub loop-i-init : goal.loop-i-init
@@ -26,16 +26,14 @@ sum_of-requires c =
     rw (c.rise_of.ensures, c.record_at.ensures, c.courses-x.ensures) (inside, courses_fit f s c.requires i one)
 
 pub add-t-requires : goal.add-t-requires
+unfolding sum_of
 add-t-requires c =
     let f = c.args.f in
     let s = c.args.s.now in
-    let fit = courses_fit f s c.requires in
     let l = c.loop-i in
-    let one : l.i < (courses f s).count = omega (arith, ap (λ y. y.count) (c.x.view_is ∙ c.courses-x.ensures)) in (
-      rw l.invariant (sums_small l.i _ (omega (arith, c.requires.placed.few_courses)) (sums_fit f s fit l.i (omega arith))),
-      rw (c.sum_of.ensures, c.rise_of.ensures, c.record_at.ensures, c.courses-x.ensures)
-          (sums_small 1 _ (omega arith) (sum_fits s (record_at (courses f s) l.i) (rise_of f s l.i) (fit l.i one))),
-    )
+    let one : l.i < (courses f s).count = omega (arith, ap (λ y. y.count) (c.x.view_is ∙ c.courses-x.ensures)) in
+    let passed : l.t.count ≡ l.i = rw l.invariant (sums_fit f s (courses_fit f s c.requires) l.i (omega arith)).count in
+    omega (arith, passed, one, ap (λ t. t.count) c.sum_of.ensures, c.requires.placed.few_courses)
 
 pub loop-i-preserved : goal.loop-i-preserved
 unfolding sums_over
@@ -46,13 +44,10 @@ loop-i-preserved c =
     rw add-one (c.add-t.ensures ∙ ap₂ added l.invariant (c.sum_of.ensures ∙ ap₂ (sum_of s) at c.rise_of.ensures))
 
 -- all courses are passed
-pub returns-clause-value : goal.returns-clause-value
-returns-clause-value c =
+pub returns-clause-some_course : goal.returns-clause-some_course
+returns-clause-some_course c =
     let f = c.args.f in
     let s = c.args.s.now in
     let l = c.loop-i in
     let all : l.i ≡ (courses f s).count = omega (arith, ap (λ y. y.count) (c.x.view_is ∙ c.courses-x.ensures)) in
-    l.invariant ∙ ap (sums_over f s) all
-
-pub returns-clause-sums_small : goal.returns-clause-sums_small
-returns-clause-sums_small c = rw (returns-clause-value c) (file_sums_fit c.args.f c.args.s.now c.requires)
+    rw (l.invariant, all) (file_sums_fit f s c.requires).2
