@@ -19,7 +19,7 @@ use heads::length::fits_diameter;
 use measure::diameter::Diameter;
 use measure::pi::{PI_OVER, PI_UNDER};
 use refusal::limits::is_near;
-use refusal::{Refusal, about_of, limited, one_test};
+use refusal::{About, Refusal, about_of, limited, one_test};
 use sentences::{OF_HEAD_DIAMETER, OF_HEAD_LENGTH, OF_LENGTHS, OF_SHELL_DIAMETER};
 
 // How far the course lengths together may lie from L1, for each course.
@@ -50,7 +50,7 @@ pub(crate) fn lengths_tested(t: Sums, l1: u32) -> Result<(), Refusal>
     ensures { result ≡ verdict (lengths_test t l1 ∷ []) }
 {
     let most = allowance(t) as u32;
-    limited(6, 0, OF_LENGTHS, 0, l1 - most, t.lengths, l1 + most)
+    limited(6, 0, OF_LENGTHS, 0, t.lengths as u32, l1 - most..=l1 + most)
 }
 
 // Of circumferences, in pairs, weighted by lengths.
@@ -100,7 +100,7 @@ fn fitting(d: u64, dh: u32) -> Option<Diameter>
     Diameter::of(d)
 }
 
-// Refusal 7 of a diameter, which is compared with DH.
+// Refusal 7 of a diameter, which is compared with DH. D1 is bounded by sums of 64 bits, and not by 32 bits as what `about_of` takes.
 fn unfit(sentence: u32, dh: u32, d: u64) -> Refusal
     requires { d < 2 ^ 63 }
     ensures { result ≡ refusal_of (diameter_test sentence dh d) }
@@ -108,7 +108,13 @@ fn unfit(sentence: u32, dh: u32, d: u64) -> Refusal
     Refusal {
         number: 7,
         place: 0,
-        about: about_of(sentence, dh, d, Diameter::SMALLEST, Diameter::LARGEST),
+        about: About {
+            sentence,
+            item: dh,
+            value: d as i64,
+            low: i64::from(Diameter::SMALLEST),
+            high: i64::from(Diameter::LARGEST),
+        },
     }
 }
 
@@ -133,6 +139,6 @@ pub(crate) fn heads_tested(found: Diameters, kind: HeadKind, l3: u32) -> Result<
 {
     let d2 = found.d2;
     let d = d2.units();
-    let about = about_of(OF_HEAD_LENGTH, d, l3 as u64, 0, d / 2);
+    let about = about_of(OF_HEAD_LENGTH, d, l3, 0..=d / 2);
     one_test(14, 0, fits_diameter(kind, d2, l3), about)
 }

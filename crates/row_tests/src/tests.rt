@@ -22,8 +22,8 @@ fn fall_tested(net: &[i64], dh: u32, step: u32, i: usize) -> Result<(), Refusal>
     requires { (i < length net.now) × (i < 2 ^ 32) × (0 < step) × (i < row_count dh step) }
     ensures { result ≡ verdict (fall_test (net_of net.now) (row_height dh step) i) }
 {
-    let height = u64::from(row_height(dh, step, i).units());
-    let about = about_of(OF_FALLING_ROW, i as u32, height, 0, 0);
+    let height = row_height(dh, step, i).units();
+    let about = about_of(OF_FALLING_ROW, i as u32, height, 0..=0);
     one_test(9, i as u32, keeps_up(net, i), about)
 }
 
@@ -40,7 +40,7 @@ pub fn rows_tested(
     requires { (rows ≤ length net.now) × (rows < 2 ^ 32) × (0 < step) × (rows ≡ row_count dh step) }
     ensures { result ≡ verdict (row_tests (net_of net.now) (row_height dh step) rows cells) }
 {
-    let about = about_of(OF_LENT_TABLE, 0, 0, 0, 0);
+    let about = about_of(OF_LENT_TABLE, 0, 0, 0..=0);
     one_test(8, 0, rows <= cells, about)?;
     for i in 0..rows {
         fall_tested(net, dh, step, i)?;
