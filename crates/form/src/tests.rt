@@ -18,6 +18,7 @@ use sentences::{
     OF_DEADWOOD_OVER_COURSES, OF_HEADER, OF_LARGE_FILE, OF_SEAMS_OVER_COURSES,
     OF_SEAMS_OVER_DEADWOOD, OF_SIZE,
 };
+use std::ops::RangeInclusive;
 
 // A file's size in bytes.
 pub const LARGEST_FILE: usize = 65_536;
@@ -31,9 +32,9 @@ pub fn size_tested(f: Format, s: &[u8]) -> Result<(), Refusal>
 {
     let low = f.header as u32;
     let high = LARGEST_FILE as u32;
-    let about = about_of(OF_LARGE_FILE, 0, 0, low, high);
+    let about = about_of(OF_LARGE_FILE, 0, 0, low..=high);
     one_test(1, 0, s.len() <= LARGEST_FILE, about)?;
-    limited(1, 0, OF_SIZE, 0, low, s.len() as u64, high)
+    limited(1, 0, OF_SIZE, 0, s.len() as u32, low..=high)
 }
 
 // The sentence of a section's count in the header.
@@ -48,11 +49,11 @@ fn count_sentence(records: Records) -> u32
 }
 
 // Refusal 2 of a section.
-fn count_tested(fewest: u32, x: Section, most: u32) -> Result<(), Refusal>
-    ensures { result ≡ verdict (count_test fewest x most ∷ []) }
+fn count_tested(x: Section, limits: RangeInclusive<u32>) -> Result<(), Refusal>
+    ensures { result ≡ verdict (count_test limits.start x limits.end ∷ []) }
 {
     let sentence = count_sentence(x.records);
-    limited(2, 0, sentence, 0, fewest, x.count as u64, most)
+    limited(2, 0, sentence, 0, x.count as u32, limits)
 }
 
 // .. of every section.
@@ -61,9 +62,9 @@ fn counts_tested(f: Format, s: &[u8]) -> Result<(), Refusal>
     ensures { result ≡ verdict (count_tests f s.now) }
 {
     let items = seam_items(f, s) as u32;
-    count_tested(1, courses(f, s), MOST_COURSES as u32)?;
-    count_tested(0, deadwood(f, s), MOST_ITEMS as u32)?;
-    count_tested(items, seams(f, s), items)
+    count_tested(courses(f, s), 1..=MOST_COURSES as u32)?;
+    count_tested(deadwood(f, s), 0..=MOST_ITEMS as u32)?;
+    count_tested(seams(f, s), items..=items)
 }
 
 // Refusal 3 of a section's own place.
@@ -73,8 +74,8 @@ fn place_tested(f: Format, s: &[u8], x: Section) -> Result<(), Refusal>
 {
     let (header, file_size) = (f.header, s.len());
     let sentence = count_sentence(x.records) + 1;
-    let (low, high) = (header as u32, file_size as u32);
-    let about = about_of(sentence, x.count as u32, x.offset as u64, low, high);
+    let limits = header as u32..=file_size as u32;
+    let about = about_of(sentence, x.count as u32, x.offset as u32, limits);
     one_test(3, 0, is_placed(header, file_size, x), about)
 }
 
@@ -96,7 +97,7 @@ fn apart_tested(x: Section, y: Section) -> Result<(), Refusal>
     ensures { result ≡ verdict (apart_test x y ∷ []) }
 {
     let sentence = overlap_sentence(x.records, y.records);
-    let about = about_of(sentence, y.count as u32, y.offset as u64, 0, 0);
+    let about = about_of(sentence, y.count as u32, y.offset as u32, 0..=0);
     one_test(3, 0, are_apart(x, y), about)
 }
 
@@ -120,8 +121,8 @@ fn kind_tested(s: &[u8]) -> Result<(), Refusal>
     ensures { result ≡ verdict (kind_test s.now ∷ []) }
 {
     let kind = word(s, layout::KIND);
-    let about = about_of(OF_HEADER, 0, kind as u64, 0, 0);
-    one_test(4, 0, HeadKind::is_known(kind), about)
+    let about = about_of(OF_HEADER, 0, kind, 0..=0);
+    one_test(4, 0, HeadKind::try_from(kind).is_ok(), about)
 }
 
 // Refusals 2 to 4 of a file that passes the first.

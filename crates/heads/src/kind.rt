@@ -1,6 +1,6 @@
 // The kinds of head, the same at both ends of a tank, and their numbers in a survey.
 ghost use Rattle.std.specs.Prelude.{◌≡◌};
-ghost use Rattle.heads.specs.Kind.{kind_known, kind_of, KindGiven};
+ghost use Rattle.heads.specs.Kind.{kind_of, KindGiven};
 
 #[derive(Clone, Copy)]
 pub enum HeadKind {
@@ -30,21 +30,11 @@ impl TryFrom<u32> for HeadKind {
 }
 
 impl HeadKind {
-    // Whether a number is that of a kind.
-    pub fn is_known(number: u32) -> bool
-        ensures { result ≡ kind_known number }
-    {
-        HeadKind::try_from(number).is_ok()
-    }
-
     // The kind of a number that is known, for those who ask where that was tested before: of any other number the last.
     #[tactic(auto, unfolding(crate::specs::Kind::kind_known, crate::specs::Kind::kind_of))]
     pub fn of(number: u32) -> HeadKind
         ensures { result ≡ kind_of number }
     {
-        match HeadKind::try_from(number) {
-            Ok(kind) => kind,
-            Err(_) => HeadKind::SphericalCap,
-        }
+        HeadKind::try_from(number).unwrap_or(HeadKind::SphericalCap)
     }
 }

@@ -14,20 +14,21 @@ use records::record::{Record, limit};
 use refusal::Refusal;
 use schedule::{LARGEST_STEP, SMALLEST_STEP};
 use sentences::OF_HEADER;
+use std::ops::RangeInclusive;
 use tank::limits::{LONGEST_FLANGE, LONGEST_SHELL};
 
 // The test of the header's number at a byte.
 // That the bytes hold a header is a clause and no type, as `file::section::courses` says.
-fn header_limit(s: &[u8], at: usize, low: u32, high: u32) -> Result<(), Refusal>
+fn header_limit(s: &[u8], at: usize, limits: RangeInclusive<u32>) -> Result<(), Refusal>
     requires { (header_end ≤ length s.now) × (at + 4 ≤ header_end) }
-    ensures { result ≡ verdict (header_limit s.now at low high ∷ []) }
+    ensures { result ≡ verdict (header_limit s.now at limits.start limits.end ∷ []) }
 {
     let header = Record {
         at: 0,
         sentence: OF_HEADER,
         item: 0,
     };
-    limit(s, header, at, low, high)
+    limit(s, header, at, limits)
 }
 
 // DH, and the shell's: L1 and the circumferences at its ends.
@@ -37,10 +38,10 @@ fn shell_tested(s: &[u8]) -> Result<(), Refusal>
 {
     let low = SHORTEST_CIRCUMFERENCE;
     let high = LONGEST_CIRCUMFERENCE;
-    header_limit(s, layout::DH, Diameter::SMALLEST, Diameter::LARGEST)?;
-    header_limit(s, layout::L1, SHORTEST_SHELL, LONGEST_SHELL)?;
-    header_limit(s, layout::LEFT, low, high)?;
-    header_limit(s, layout::RIGHT, low, high)
+    header_limit(s, layout::DH, Diameter::SMALLEST..=Diameter::LARGEST)?;
+    header_limit(s, layout::L1, SHORTEST_SHELL..=LONGEST_SHELL)?;
+    header_limit(s, layout::LEFT, low..=high)?;
+    header_limit(s, layout::RIGHT, low..=high)
 }
 
 // All of them, in their order.
@@ -51,7 +52,7 @@ pub fn header_tested(s: &[u8]) -> Result<(), Refusal>
 {
     let kind = HeadKind::of(word(s, layout::KIND));
     shell_tested(s)?;
-    header_limit(s, layout::L2, 0, LONGEST_FLANGE)?;
-    header_limit(s, layout::L3, shortest_of(kind), longest_of(kind))?;
-    header_limit(s, layout::STEP, SMALLEST_STEP, LARGEST_STEP)
+    header_limit(s, layout::L2, 0..=LONGEST_FLANGE)?;
+    header_limit(s, layout::L3, shortest_of(kind)..=longest_of(kind))?;
+    header_limit(s, layout::STEP, SMALLEST_STEP..=LARGEST_STEP)
 }

@@ -26,11 +26,11 @@ fn course_tested(s: &[u8], x: Record) -> Result<(), Refusal>
 {
     let low = limits::SHORTEST_CIRCUMFERENCE;
     let high = limits::LONGEST_CIRCUMFERENCE;
-    let short = limits::SHORTEST_COURSE;
-    limit(s, x, layout::FIRST_CIRCUMFERENCE, low, high)?;
-    limit(s, x, layout::SECOND_CIRCUMFERENCE, low, high)?;
-    limit(s, x, layout::COURSE_LENGTH, short, LONGEST_SHELL)?;
-    limit(s, x, layout::THICKNESS, limits::THINNEST, limits::THICKEST)
+    let lengths = limits::SHORTEST_COURSE..=LONGEST_SHELL;
+    limit(s, x, layout::FIRST_CIRCUMFERENCE, low..=high)?;
+    limit(s, x, layout::SECOND_CIRCUMFERENCE, low..=high)?;
+    limit(s, x, layout::COURSE_LENGTH, lengths)?;
+    limit(s, x, layout::THICKNESS, limits::THINNEST..=limits::THICKEST)
 }
 
 // The heights of a deadwood item. Where they do not fit, the high one is the bad number.
@@ -38,9 +38,9 @@ fn heights_tested(item: Deadwood, dh: u32, x: Record) -> Result<(), Refusal>
     requires { (x.at + item_end < 2 ^ 32) × (x.sentence + item_end < 2 ^ 32) }
     ensures { result ≡ verdict (heights_test item dh x ∷ []) }
 {
-    let high = item.high.units() as u64;
+    let high = item.high.units();
     let sentence = x.sentence + (layout::HIGH_HEIGHT / 4) as u32;
-    let about = about_of(sentence, x.item, high, 0, dh);
+    let about = about_of(sentence, x.item, high, 0..=dh);
     let place = (x.at + layout::HIGH_HEIGHT) as u32;
     one_test(5, place, item.heights_fit(dh), about)
 }
@@ -78,9 +78,9 @@ fn seam_tested(s: &[u8], x: Record) -> Result<(), Refusal>
     requires { Whole s.now x seam_end }
     ensures { result ≡ verdict (seam_tests s.now x) }
 {
-    limit(s, x, layout::SEAM_NUMBER, 0, MOST_SEAMS)?;
-    limit(s, x, layout::SEAM_THICKNESS, 0, THICKEST_SEAM)?;
-    limit(s, x, layout::SEAM_WIDTH, 0, WIDEST_SEAM)
+    limit(s, x, layout::SEAM_NUMBER, 0..=MOST_SEAMS)?;
+    limit(s, x, layout::SEAM_THICKNESS, 0..=THICKEST_SEAM)?;
+    limit(s, x, layout::SEAM_WIDTH, 0..=WIDEST_SEAM)
 }
 
 // The numbers of a record.

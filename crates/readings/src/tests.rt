@@ -27,9 +27,9 @@ fn reading_tested(s: &[u8], x: Record, k: usize, rise: u64) -> Result<(), Refusa
         sentence: OF_CORRECTED,
         item: x.item,
     };
-    let reading = corrected_at(s, x.at + k, rise);
-    let low = SHORTEST_CIRCUMFERENCE;
-    number_tested(course, k, low, reading, LONGEST_CIRCUMFERENCE)
+    let reading = corrected_at(s, x.at + k, rise) as u32;
+    let limits = SHORTEST_CIRCUMFERENCE..=LONGEST_CIRCUMFERENCE;
+    number_tested(course, k, reading, limits)
 }
 
 // Both readings of a course.

@@ -8,6 +8,7 @@ use file::section::{Records, Section, record_at};
 use file::word::word;
 use refusal::{Refusal, limited};
 use sentences::{OF_COURSES, OF_DEADWOOD, OF_SEAMS};
+use std::ops::RangeInclusive;
 
 // A record of the file, or its header: the byte where it starts, the sentence of its first word, and which one it is as one counts from 1.
 #[derive(Clone, Copy)]
@@ -42,19 +43,24 @@ pub fn record_of(x: Section, i: usize) -> Record
 }
 
 // The test of a number that stands at byte k of a record, which is its place.
-pub fn number_tested(x: Record, k: usize, low: u32, number: u64, high: u32) -> Result<(), Refusal>
-    requires { (x.at + k < 2 ^ 32) × (x.sentence + k < 2 ^ 32) × (number < 2 ^ 63) }
-    ensures { result ≡ verdict (number_test x k low number high ∷ []) }
+pub fn number_tested(
+    x: Record,
+    k: usize,
+    number: u32,
+    limits: RangeInclusive<u32>,
+) -> Result<(), Refusal>
+    requires { (x.at + k < 2 ^ 32) × (x.sentence + k < 2 ^ 32) }
+    ensures { result ≡ verdict (number_test x k limits.start number limits.end ∷ []) }
 {
     let place = (x.at + k) as u32;
     let sentence = x.sentence + (k / 4) as u32;
-    limited(5, place, sentence, x.item, low, number, high)
+    limited(5, place, sentence, x.item, number, limits)
 }
 
 // .. as it stands there.
-pub fn limit(s: &[u8], x: Record, k: usize, low: u32, high: u32) -> Result<(), Refusal>
+pub fn limit(s: &[u8], x: Record, k: usize, limits: RangeInclusive<u32>) -> Result<(), Refusal>
     requires { (x.at + k + 4 ≤ length s.now) × (x.at + k < 2 ^ 32) × (x.sentence + k < 2 ^ 32) }
-    ensures { result ≡ verdict (limit s.now x k low high ∷ []) }
+    ensures { result ≡ verdict (limit s.now x k limits.start limits.end ∷ []) }
 {
-    number_tested(x, k, low, word(s, x.at + k) as u64, high)
+    number_tested(x, k, word(s, x.at + k), limits)
 }

@@ -2,10 +2,11 @@
 // refused, and when, is said where the tests stand.
 #![tactic(auto)]
 
-ghost use Rattle.std.specs.Prelude.{◌≡◌, [], ◌∷◌, ◌^◌, ◌<◌};
+ghost use Rattle.std.specs.Prelude.{◌≡◌, [], ◌∷◌};
 ghost use Rattle.refusal.specs.Test.{about, test, limited, verdict, first_refusal};
 
 use crate::limits::is_within;
+use std::ops::RangeInclusive;
 
 pub mod limits;
 
@@ -31,16 +32,15 @@ pub struct Refusal {
 }
 
 // What a test of a number without a sign is about.
-pub fn about_of(sentence: u32, item: u32, value: u64, low: u32, high: u32) -> About
-    requires { value < 2 ^ 63 }
-    ensures { result ≡ about sentence item value low high }
+pub fn about_of(sentence: u32, item: u32, value: u32, limits: RangeInclusive<u32>) -> About
+    ensures { result ≡ about sentence item value limits.start limits.end }
 {
     About {
         sentence,
         item,
-        value: value as i64,
-        low: low as i64,
-        high: high as i64,
+        value: i64::from(value),
+        low: i64::from(*limits.start()),
+        high: i64::from(*limits.end()),
     }
 }
 
@@ -65,19 +65,17 @@ pub fn limited(
     place: u32,
     sentence: u32,
     item: u32,
-    low: u32,
-    value: u64,
-    high: u32,
+    value: u32,
+    limits: RangeInclusive<u32>,
 ) -> Result<(), Refusal>
-    requires { value < 2 ^ 63 }
-    ensures { result ≡ verdict (limited number place sentence item low value high ∷ []) }
+    ensures { result ≡ verdict (limited number place sentence item limits.start value limits.end ∷ []) }
 {
-    let passes = is_within(low as u64, value, high as u64);
+    let passes = is_within(value, &limits);
     one_test(
         number,
         place,
         passes,
-        about_of(sentence, item, value, low, high),
+        about_of(sentence, item, value, limits),
     )
 }
 

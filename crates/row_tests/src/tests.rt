@@ -23,7 +23,7 @@ fn fall_tested(net: &[i64], schedule: Schedule, i: usize) -> Result<(), Refusal>
     ensures { result ≡ verdict (fall_test (net_of net.now) (row_height schedule.dh schedule.step) i) }
 {
     let height = u64::from(schedule.height(i).units());
-    let about = about_of(OF_FALLING_ROW, i as u32, height, 0, 0);
+    let about = about_of(OF_FALLING_ROW, i as u32, height, 0..=0);
     one_test(9, i as u32, keeps_up(net, i), about)
 }
 
@@ -34,7 +34,7 @@ pub fn rows_tested(net: &[i64], schedule: Schedule, cells: usize) -> Result<(), 
     requires { (length net.now < 2 ^ 32) × (length net.now ≡ row_count schedule.dh schedule.step) }
     ensures { result ≡ verdict (row_tests (net_of net.now) (row_height schedule.dh schedule.step) (length net.now) cells) }
 {
-    let about = about_of(OF_LENT_TABLE, 0, 0, 0, 0);
+    let about = about_of(OF_LENT_TABLE, 0, 0, 0..=0);
     one_test(8, 0, net.len() <= cells, about)?;
     for i in 0..net.len() {
         fall_tested(net, schedule, i)?;

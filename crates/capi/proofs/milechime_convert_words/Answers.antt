@@ -19,5 +19,5 @@ pub returns-clause-exactly : goal.returns-clause-exactly
 returns-clause-exactly c =
     let a = c.args in
     let is : c.words_about.result ≡ conversion_words a.header a.survey.now =
-    rw (ne_eqb a.header format48.header c.if-header-old.false) (c.words_about.ensures.value ∙ ap words_about c.about_of.ensures) in
+    rw (ne_eqb a.header format48.header c.if-header-old.false) (c.words_about.ensures.value ∙ ap words_about (rw (c.new.ensures.start, c.new.ensures.end) at c.about_of.ensures)) in
     rw is (conversion_words_law a.header a.survey.now)
