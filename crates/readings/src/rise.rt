@@ -1,5 +1,6 @@
 // The seams of a course, the tape rise over them, and a reading that has lost it.
 ghost use Rattle.std.specs.Prelude.{◌≡◌, ◌+◌, ◌^◌, ◌≤◌, ◌<◌, length};
+ghost use Rattle.seams.specs.SeamLaws.{SeamFits};
 ghost use Rattle.file.specs.Word.{word};
 ghost use Rattle.numbers.specs.FitLaws.{LimitsFit};
 ghost use Rattle.readings.specs.Reading.{seam_of, rise_of, corrected};
@@ -14,9 +15,10 @@ use seams::seam::Seam;
 
 // The seams of course i.
 // `LimitsFit` is of a format and of bytes, once the numbers in them were tested: a clause, as `file::section::courses` says.
+#[tactic(auto, using(numbers::specs::FitLaws::seam_from_fits))]
 fn seam_of(f: Format, s: &[u8], i: usize) -> Seam
     requires { LimitsFit f s.now }
-    ensures { result ≡ seam_of f s.now i }
+    ensures { (result ≡ seam_of f s.now i) × SeamFits result }
 {
     let x = seams(f, s);
     if i < x.count {

@@ -1,7 +1,6 @@
 // Deadwood and seam items as a file holds them.
 ghost use Rattle.std.specs.Prelude.{◌≡◌, ◌+◌, ◌≤◌, length};
 ghost use Rattle.file.specs.Layout.{item_end, seam_end};
-ghost use Rattle.seams.specs.SeamLaws.{SeamFits};
 ghost use Rattle.records.specs.Item.{item_from, seam_from};
 
 use deadwood::item::Deadwood;
@@ -22,9 +21,9 @@ pub fn item_from(s: &[u8], at: usize) -> Deadwood
     }
 }
 
-// The seams whose item starts at a byte, once its numbers were tested.
+// The seams whose item starts at a byte.
 pub fn seam_from(s: &[u8], at: usize) -> Seam
-    requires { (at + seam_end ≤ length s.now) × SeamFits (seam_from s.now at) }
+    requires { at + seam_end ≤ length s.now }
     ensures { result ≡ seam_from s.now at }
 {
     Seam {

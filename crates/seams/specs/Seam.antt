@@ -1,11 +1,6 @@
 -- The butt welds that the tape crosses on a course (document 02, E4): how many, how thick and how wide at most. Assumes nothing.
 use Rattle.std.specs.Prelude.{ℕ}
 use Rattle.seams.specs.declared.seam.Seam.{Seam}
-use Rattle.seams.specs.declared.seam.Seam.TheInside.{Inside}
-
--- what is said of a seam: all that its fields have
-abbrev pub welds : Inside → Seam
-welds x = record { number = x.number; thickness = x.thickness; width = x.width }
 
 abbrev pub seam : (number thickness width : ℕ) → Seam
 seam number thickness width = record { number = number; thickness = thickness; width = width }

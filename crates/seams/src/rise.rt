@@ -1,6 +1,7 @@
 // The tape rise: the tape bridges each seam, so that a circumference comes out long by so much.
 ghost use Rattle.std.specs.Prelude.{◌≡◌, ◌≤◌};
 ghost use Rattle.measure.specs.Diameter.{smallest};
+ghost use Rattle.seams.specs.SeamLaws.{SeamFits};
 ghost use Rattle.seams.specs.Rise.{first_term, second_term, tape_rise};
 
 use crate::seam::Seam;
@@ -9,7 +10,7 @@ use arith::nearest::nearest_quotient;
 // 2Ntw/d, to the nearest u.
 #[tactic(auto, using(crate::specs::SeamLaws::first_product_fits), unfolding(crate::specs::Rise::first_term))]
 fn first_term(seam: Seam, dh: u32) -> u64
-    requires { smallest ≤ dh }
+    requires { SeamFits seam × (smallest ≤ dh) }
     ensures { result ≡ first_term seam dh }
 {
     nearest_quotient(
@@ -21,7 +22,7 @@ fn first_term(seam: Seam, dh: u32) -> u64
 // (8Nt/3)·root(t/d) is the root of 64N²t³/(9d). The quotient may be cut to whole numbers before the root is: squares are whole too.
 #[tactic(auto, using(crate::specs::SeamLaws::second_product_fits, laws::proofs::RootLaws::root_unique), unfolding(crate::specs::Rise::second_term, laws::specs::Root::root_of))]
 fn second_term(seam: Seam, dh: u32) -> u64
-    requires { smallest ≤ dh }
+    requires { SeamFits seam × (smallest ≤ dh) }
     ensures { result ≡ second_term seam dh }
 {
     let n = u64::from(seam.number);
@@ -31,7 +32,7 @@ fn second_term(seam: Seam, dh: u32) -> u64
 
 #[tactic(auto, using(crate::proofs::RiseLaws::first_term_at_most, crate::proofs::RiseLaws::second_term_at_most), unfolding(crate::specs::Rise::tape_rise))]
 pub fn tape_rise(seam: Seam, dh: u32) -> u64
-    requires { smallest ≤ dh }
+    requires { SeamFits seam × (smallest ≤ dh) }
     ensures { result ≡ tape_rise seam dh }
 {
     first_term(seam, dh) + second_term(seam, dh)

@@ -2,8 +2,6 @@
 ghost use Rattle.std.specs.Prelude.{◌≡◌};
 ghost use Rattle.seams.specs.Seam.{most_seams, thickest_seam, widest_seam, no_seam};
 
-use std::marker::Model;
-
 // Of one course.
 pub const MOST_SEAMS: u32 = 12;
 
@@ -12,28 +10,13 @@ pub const THICKEST_SEAM: u32 = 1_000;
 
 pub const WIDEST_SEAM: u32 = 5_000;
 
-// N, t and w: how many welds the tape crosses, and how thick and how wide each of them is, in u, all within their limits: the file's words are
-// judged one by one before a seam is made of them.
+// N, t and w: how many welds the tape crosses, and how thick and how wide each of them is, in u. The limits are no invariant of
+// the type: a seam is read before it is judged, and its refusal names the number that does not fit.
 #[derive(Clone, Copy)]
 pub struct Seam {
     pub number: u32,
     pub thickness: u32,
     pub width: u32,
-}
-
-impl Model for Seam {
-    ghost use Rattle.seams.specs.Welds.{Welds};
-
-    ghost Value = { Welds };
-
-    ghost use Rattle.seams.specs.Seam.{welds};
-    ghost use Rattle.seams.specs.SeamLaws.{SeamFits};
-
-    ghost view = { welds };
-
-    ghost invariant = { λ x. SeamFits (welds x) };
-
-    ghost inverse = { λ x. record { number = x.number; thickness = x.thickness; width = x.width } };
 }
 
 impl Seam {
