@@ -46,7 +46,7 @@ pub(crate) fn lengths_tested(t: Sums, l1: u32) -> Result<(), Refusal>
     ensures { result ≡ verdict (lengths_test t l1 ∷ []) }
 {
     let most = allowance(t);
-    limited(6, 0, OF_LENGTHS, 0, t.lengths, l1 - most..=l1 + most)
+    limited(6, 0, OF_LENGTHS, 0, u64::from(t.lengths), l1 - most..=l1 + most)
 }
 
 // Of circumferences, in pairs, weighted by lengths.
@@ -103,7 +103,7 @@ fn unfit(sentence: u32, dh: u32, d: u32) -> Refusal
     Refusal {
         number: 7,
         place: 0,
-        about: about_of(sentence, dh, d, Diameter::SMALLEST..=Diameter::LARGEST),
+        about: about_of(sentence, dh, u64::from(d), Diameter::SMALLEST..=Diameter::LARGEST),
     }
 }
 
@@ -128,6 +128,6 @@ pub(crate) fn heads_tested(found: Diameters, kind: HeadKind, l3: u32) -> Result<
 {
     let d2 = found.d2;
     let d = d2.units();
-    let about = about_of(OF_HEAD_LENGTH, d, l3, 0..=d / 2);
+    let about = about_of(OF_HEAD_LENGTH, d, u64::from(l3), 0..=d / 2);
     one_test(14, 0, fits_diameter(kind, d2, l3), about)
 }

@@ -34,7 +34,7 @@ pub fn size_tested(f: Format, s: &[u8]) -> Result<(), Refusal>
     let high = LARGEST_FILE as u32;
     let about = about_of(OF_LARGE_FILE, 0, 0, low..=high);
     one_test(1, 0, s.len() <= LARGEST_FILE, about)?;
-    limited(1, 0, OF_SIZE, 0, s.len() as u32, low..=high)
+    limited(1, 0, OF_SIZE, 0, s.len() as u64, low..=high)
 }
 
 // The sentence of a section's count in the header.
@@ -53,7 +53,7 @@ fn count_tested(x: Section, limits: RangeInclusive<u32>) -> Result<(), Refusal>
     ensures { result ≡ verdict (count_test limits.start x limits.end ∷ []) }
 {
     let sentence = count_sentence(x.records);
-    limited(2, 0, sentence, 0, x.count as u32, limits)
+    limited(2, 0, sentence, 0, x.count as u64, limits)
 }
 
 // .. of every section.
@@ -75,7 +75,7 @@ fn place_tested(f: Format, s: &[u8], x: Section) -> Result<(), Refusal>
     let (header, file_size) = (f.header, s.len());
     let sentence = count_sentence(x.records) + 1;
     let limits = header as u32..=file_size as u32;
-    let about = about_of(sentence, x.count as u32, x.offset as u32, limits);
+    let about = about_of(sentence, x.count as u32, x.offset as u64, limits);
     one_test(3, 0, is_placed(header, file_size, x), about)
 }
 
@@ -97,7 +97,7 @@ fn apart_tested(x: Section, y: Section) -> Result<(), Refusal>
     ensures { result ≡ verdict (apart_test x y ∷ []) }
 {
     let sentence = overlap_sentence(x.records, y.records);
-    let about = about_of(sentence, y.count as u32, y.offset as u32, 0..=0);
+    let about = about_of(sentence, y.count as u32, y.offset as u64, 0..=0);
     one_test(3, 0, are_apart(x, y), about)
 }
 
@@ -121,7 +121,7 @@ fn kind_tested(s: &[u8]) -> Result<(), Refusal>
     ensures { result ≡ verdict (kind_test s.now ∷ []) }
 {
     let kind = word(s, layout::KIND);
-    let about = about_of(OF_HEADER, 0, kind, 0..=0);
+    let about = about_of(OF_HEADER, 0, u64::from(kind), 0..=0);
     one_test(4, 0, HeadKind::try_from(kind).is_ok(), about)
 }
 

@@ -43,6 +43,6 @@ pub fn height_for(dh: u32, step: u32, table: &[u32], volume: Volume) -> Result<D
 {
     let sound = SoundTable::tested(dh, step, table)?;
     let w = volume.units();
-    limited(13, 0, OF_VOLUME, 0, w, 0..=sound.last())?;
+    limited(13, 0, OF_VOLUME, 0, u64::from(w), 0..=sound.last())?;
     Ok(DipHeight::from(lowest(&sound, w)))
 }

@@ -21,6 +21,6 @@ pub fn litres_at(dh: u32, step: u32, table: &[u32], height: DipHeight) -> Result
 {
     let sound = SoundTable::tested(dh, step, table)?;
     let h = height.units();
-    limited(12, 0, OF_HEIGHT, 0, h, 0..=dh)?;
+    limited(12, 0, OF_HEIGHT, 0, u64::from(h), 0..=dh)?;
     Ok(Volume::from(sound.litres(h)))
 }

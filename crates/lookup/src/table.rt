@@ -46,7 +46,7 @@ impl<'a> SoundTable<'a> {
     pub fn tested(dh: u32, step: u32, rows: &'a [u32]) -> Result<SoundTable<'a>, Refusal>
         ensures { MatchResult result (λ t. (t.schedule.dh ≡ dh) × (t.schedule.step ≡ step) × (t.rows.now ≡ rows.now)) (λ r. (sound_table dh step rows.now ≡ false) × (r ≡ refusal 11 0 (unsound dh step))) }
     {
-        let about = about_of(OF_TABLE, dh, step, 0..=0);
+        let about = about_of(OF_TABLE, dh, u64::from(step), 0..=0);
         one_test(11, 0, is_sound(dh, step, rows), about)?;
         Ok(SoundTable {
             schedule: Schedule { dh, step },

@@ -40,7 +40,7 @@ fn heights_tested(item: Deadwood, dh: u32, x: Record) -> Result<(), Refusal>
 {
     let high = item.high.units();
     let sentence = x.sentence + (layout::HIGH_HEIGHT / 4) as u32;
-    let about = about_of(sentence, x.item, high, 0..=dh);
+    let about = about_of(sentence, x.item, u64::from(high), 0..=dh);
     let place = (x.at + layout::HIGH_HEIGHT) as u32;
     one_test(5, place, item.heights_fit(dh), about)
 }

@@ -27,7 +27,7 @@ fn reading_tested(s: &[u8], x: Record, k: usize, rise: u64) -> Result<(), Refusa
         sentence: OF_CORRECTED,
         item: x.item,
     };
-    let reading = corrected_at(s, x.at + k, rise) as u32;
+    let reading = corrected_at(s, x.at + k, rise);
     let limits = SHORTEST_CIRCUMFERENCE..=LONGEST_CIRCUMFERENCE;
     number_tested(course, k, reading, limits)
 }

@@ -46,10 +46,10 @@ pub fn record_of(x: Section, i: usize) -> Record
 pub fn number_tested(
     x: Record,
     k: usize,
-    number: u32,
+    number: u64,
     limits: RangeInclusive<u32>,
 ) -> Result<(), Refusal>
-    requires { (x.at + k < 2 ^ 32) × (x.sentence + k < 2 ^ 32) }
+    requires { (x.at + k < 2 ^ 32) × (x.sentence + k < 2 ^ 32) × (number < 2 ^ 63) }
     ensures { result ≡ verdict (number_test x k limits.start number limits.end ∷ []) }
 {
     let place = (x.at + k) as u32;
@@ -62,5 +62,5 @@ pub fn limit(s: &[u8], x: Record, k: usize, limits: RangeInclusive<u32>) -> Resu
     requires { (x.at + k + 4 ≤ length s.now) × (x.at + k < 2 ^ 32) × (x.sentence + k < 2 ^ 32) }
     ensures { result ≡ verdict (limit s.now x k limits.start limits.end ∷ []) }
 {
-    number_tested(x, k, word(s, x.at + k), limits)
+    number_tested(x, k, u64::from(word(s, x.at + k)), limits)
 }

@@ -2,7 +2,7 @@
 // refused, and when, is said where the tests stand.
 #![tactic(auto)]
 
-ghost use Rattle.std.specs.Prelude.{◌≡◌, [], ◌∷◌};
+ghost use Rattle.std.specs.Prelude.{◌≡◌, [], ◌∷◌, ◌^◌, ◌<◌};
 ghost use Rattle.refusal.specs.Test.{about, test, limited, verdict, first_refusal};
 
 use crate::limits::is_within;
@@ -32,13 +32,14 @@ pub struct Refusal {
 }
 
 // What a test of a number without a sign is about.
-pub fn about_of(sentence: u32, item: u32, value: u32, limits: RangeInclusive<u32>) -> About
+pub fn about_of(sentence: u32, item: u32, value: u64, limits: RangeInclusive<u32>) -> About
+    requires { value < 2 ^ 63 }
     ensures { result ≡ about sentence item value limits.start limits.end }
 {
     About {
         sentence,
         item,
-        value: i64::from(value),
+        value: value as i64,
         low: i64::from(*limits.start()),
         high: i64::from(*limits.end()),
     }
@@ -65,12 +66,15 @@ pub fn limited(
     place: u32,
     sentence: u32,
     item: u32,
-    value: u32,
+    value: u64,
     limits: RangeInclusive<u32>,
 ) -> Result<(), Refusal>
+    requires { value < 2 ^ 63 }
     ensures { result ≡ verdict (limited number place sentence item limits.start value limits.end ∷ []) }
 {
-    let passes = is_within(value, &limits);
+    let low = u64::from(*limits.start());
+    let high = u64::from(*limits.end());
+    let passes = is_within(low, value, high);
     one_test(
         number,
         place,

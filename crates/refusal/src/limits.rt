@@ -2,13 +2,11 @@
 ghost use Rattle.std.specs.Prelude.{◌≡◌};
 ghost use Rattle.refusal.specs.Test.{within, near};
 
-use std::ops::RangeInclusive;
-
-// Whether a number is within its limits. By the limits alone: `contains` asks besides whether the range was walked to its end.
-pub fn is_within(x: u32, limits: &RangeInclusive<u32>) -> bool
-    ensures { result ≡ within limits.now.start x limits.now.end }
+// Whether a number is within its limits.
+pub fn is_within(low: u64, x: u64, high: u64) -> bool
+    ensures { result ≡ within low x high }
 {
-    *limits.start() <= x && x <= *limits.end()
+    (low..=high).contains(&x)
 }
 
 // Whether two numbers differ by no more than so much, either way.

@@ -11,7 +11,7 @@ pub const THICKEST_SEAM: u32 = 1_000;
 pub const WIDEST_SEAM: u32 = 5_000;
 
 // N, t and w: how many welds the tape crosses, and how thick and how wide each of them is, in u. The limits are no invariant of
-// the type: a seam is read before it is judged, and its refusal names the number that does not fit.
+// the type: `records::item::seam_from` makes a seam of any three words.
 #[derive(Clone, Copy)]
 pub struct Seam {
     pub number: u32,
