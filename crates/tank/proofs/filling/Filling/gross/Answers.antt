@@ -56,21 +56,21 @@ heads_volume-of_heads-requires-clause-limits c =
     let limits = c.requires.0 in
     rw c.corrected-in_heads.ensures (corrected_at_most _ _ _, omega (arith, limits.d2_low), limits.d2_high, limits.heads)
 
-pub plus-requires : goal.plus-requires
-plus-requires c =
+pub add-requires : goal.add-requires
+add-requires c =
     let h = dip_units c.args.h in
     let all =
     together c.args.t h (c.area.ensures ∙ ap (λ f. f.shell.area) c.requires.1) (c.area-2.ensures ∙ ap (λ f. f.flanges.area) c.requires.1)
     c.corrected-in_heads.ensures c.cylinder_volume-of_shell.ensures c.cylinder_volume-of_flanges.ensures c.heads_volume-of_heads.ensures in
     omega (arith, all, gross_small c.args.t h c.requires.0)
 
-pub plus-requires-2 : goal.plus-requires-2
-plus-requires-2 c =
+pub add-requires-2 : goal.add-requires-2
+add-requires-2 c =
     let h = dip_units c.args.h in
     let all =
     together c.args.t h (c.area.ensures ∙ ap (λ f. f.shell.area) c.requires.1) (c.area-2.ensures ∙ ap (λ f. f.flanges.area) c.requires.1)
     c.corrected-in_heads.ensures c.cylinder_volume-of_shell.ensures c.cylinder_volume-of_flanges.ensures c.heads_volume-of_heads.ensures in
-    rw c.plus.ensures (omega (arith, all, gross_small c.args.t h c.requires.0))
+    rw c.add.ensures (omega (arith, all, gross_small c.args.t h c.requires.0))
 
 pub returns : goal.returns
 returns c =
@@ -78,4 +78,4 @@ returns c =
     let all =
     together c.args.t (dip_units c.args.h) (c.area.ensures ∙ ap (λ f. f.shell.area) c.requires.1) (c.area-2.ensures ∙ ap (λ f. f.flanges.area) c.requires.1)
     c.corrected-in_heads.ensures c.cylinder_volume-of_shell.ensures c.cylinder_volume-of_flanges.ensures c.heads_volume-of_heads.ensures in
-    c.plus-2.ensures ∙ ap volume (ap (λ x. volume_units x + volume_units heads) c.plus.ensures ∙ all)
+    c.add-2.ensures ∙ ap volume (ap (λ x. volume_units x + volume_units heads) c.add.ensures ∙ all)
