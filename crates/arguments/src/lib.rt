@@ -16,13 +16,11 @@ use survey::decode::LARGEST_FILE;
 // Room to read a survey: one byte more than one may have tells that it is too long.
 pub const SURVEY_ROOM: usize = LARGEST_FILE + 1;
 
-// A program's own words, arguments `first` up to `end`, behind its name and `-f FILE`; and the argument that names the survey's file, if one does.
-// Two numbers and no `Range`, which is not copied: a program hands its words on more than once.
-#[derive(Clone, Copy)]
+// Which arguments are a program's own words, behind its name and `-f FILE`; and the argument that names the survey's file, if one does.
+#[derive(Drop)]
 pub struct Own {
     pub file: Option<usize>,
-    pub first: usize,
-    pub end: usize,
+    pub words: Range<usize>,
 }
 
 // Whether argument i is this word. One that has no room here is not.
@@ -58,23 +56,21 @@ pub fn own_words(rt: &HostRuntime) -> Own
     if 3 <= end && is_word(rt, 1, b"-f") {
         return Own {
             file: Some(2),
-            first: 3,
-            end,
+            words: 3..end,
         };
     }
     Own {
         file: None,
-        first: 1,
-        end,
+        words: 1..end,
     }
 }
 
 // Tells the program's use in place of all else: on standard output where `--help` is all that is asked, on standard error where the words
 // are not right. Answers whether it did, which is before anything is read.
-pub fn tells_use(rt: &HostRuntime, own: Own, right: bool, text: &[u8]) -> bool
+pub fn tells_use(rt: &HostRuntime, own: &Own, right: bool, text: &[u8]) -> bool
     ensures { (result || right) ≡ true }
 {
-    if own.end == 2 && is_word(rt, 1, b"--help") {
+    if own.words.end == 2 && is_word(rt, 1, b"--help") {
         write_whole(rt, &mut rt.stdout(), text);
         return true;
     }
@@ -86,7 +82,7 @@ pub fn tells_use(rt: &HostRuntime, own: Own, right: bool, text: &[u8]) -> bool
 }
 
 // The survey, whole, from the file that is named or from standard input, as far as buf has room for it.
-pub fn read_survey(rt: &HostRuntime, own: Own, buf: &mut [u8]) -> Moved
+pub fn read_survey(rt: &HostRuntime, own: &Own, buf: &mut [u8]) -> Moved
     ensures prefix_len { IsPrefixLen result.count buf.new }
     ensures buf_len_unchanged { length buf.new ≡ length buf.old }
 {
