@@ -6,9 +6,11 @@ ghost use Rattle.std.specs.Prelude.{◌≡◌, true, ◌||◌, ◌≤◌, length
 ghost use Rattle.io.specs.Counts.{IsPrefixLen};
 ghost use Rattle.streams.specs.Whole.{Written};
 ghost use Rattle.figures.specs.Figures.{figure_of};
+ghost use Rattle.said.specs.declared.Said.{Said};
 ghost use Rattle.arguments.specs.Words.{Begins, longest_word, ReadFrom};
 
 use figures::read_figure;
+use said::{ERR_SIZE, Said};
 use std::ops::Range;
 use streams::{Moved, argument, argument_count, read_input, read_named, write_output, write_whole};
 use survey::decode::LARGEST_FILE;
@@ -100,4 +102,20 @@ pub fn write_said(rt: &HostRuntime, out: &[u8], err: &[u8]) -> Moved
     let put = write_output(rt, out);
     write_whole(rt, &mut rt.stderr(), err);
     put
+}
+
+// What is said into `out`, for standard output, and into a memory of its own, for standard error: both are written. Answers what came of
+// the first.
+pub fn say<F: FnOnce(&mut [u8], &mut [u8]) -> Said>(
+    rt: &HostRuntime,
+    out: &mut [u8],
+    text: F,
+) -> Moved
+    requires callable { F.IsAlwaysCallable text }
+    requires within { (o e : _) (said : Said) (p f : _) → F.post text o e said p f → (said.out ≤ length p.now) × (said.err ≤ length f.now) }
+    ensures { (o e : _) × (said : Said) × (p f : _) × F.post text o e said p f × (p.now ≡ out.new) × Written said.out result }
+{
+    let mut err = [0u8; ERR_SIZE];
+    let said = text(out, &mut err);
+    write_said(rt, &out[..said.out], &err[..said.err])
 }

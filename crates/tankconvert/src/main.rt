@@ -1,17 +1,9 @@
 // tankconvert: an old survey file in today's format, or the line of its refusal; and beside a refusal, on standard error, what it means in words.
 #![tactic(auto)]
 
-use arguments::{SURVEY_ROOM, is_word, own_words, read_survey, tells_use, write_said};
+use arguments::{SURVEY_ROOM, is_word, own_words, read_survey, say, tells_use};
 use report::conversion::conversion_said;
 use rewrite::rewritten::MOST_BYTES;
-use said::ERR_SIZE;
-
-fn print_converted(rt: &HostRuntime, survey: &[u8]) {
-    let mut out = [0u8; MOST_BYTES];
-    let mut err = [0u8; ERR_SIZE];
-    let said = conversion_said(survey, &mut out, &mut err);
-    write_said(rt, &out[..said.out], &err[..said.err]);
-}
 
 fn main(rt: HostRuntime) {
     let own = own_words(&rt);
@@ -26,6 +18,8 @@ fn main(rt: HostRuntime) {
     let mut file = [0u8; SURVEY_ROOM];
     let got = read_survey(&rt, &own, &mut file);
     if got.end.is_ok() {
-        print_converted(&rt, &file[..got.count]);
+        let survey = &file[..got.count];
+        let mut out = [0u8; MOST_BYTES];
+        say(&rt, &mut out, |out, err| conversion_said(survey, out, err));
     }
 }

@@ -1,16 +1,9 @@
 // tanktable: the capacity table of a survey, or the line of its refusal; and beside a refusal, on standard error, what it means in words.
 #![tactic(auto)]
 
-use arguments::{SURVEY_ROOM, own_words, read_survey, tells_use, write_said};
+use arguments::{SURVEY_ROOM, own_words, read_survey, say, tells_use};
 use report::capacity_table::table_said;
-use said::{ERR_SIZE, OUT_SIZE};
-
-fn print_table(rt: &HostRuntime, survey: &[u8]) {
-    let mut out = [0u8; OUT_SIZE];
-    let mut err = [0u8; ERR_SIZE];
-    let said = table_said(survey, &mut out, &mut err);
-    write_said(rt, &out[..said.out], &err[..said.err]);
-}
+use said::OUT_SIZE;
 
 fn main(rt: HostRuntime) {
     let own = own_words(&rt);
@@ -22,6 +15,8 @@ fn main(rt: HostRuntime) {
     let mut file = [0u8; SURVEY_ROOM];
     let got = read_survey(&rt, &own, &mut file);
     if got.end.is_ok() {
-        print_table(&rt, &file[..got.count]);
+        let survey = &file[..got.count];
+        let mut out = [0u8; OUT_SIZE];
+        say(&rt, &mut out, |out, err| table_said(survey, out, err));
     }
 }
