@@ -96,7 +96,7 @@ pub fn read_survey(rt: &HostRuntime, own: &Own, buf: &mut [u8]) -> Moved
 
 // What is said, to standard output and then to standard error. Answers what came of the first.
 // Two texts, since each goes to a stream of its own.
-pub fn write_said(rt: &HostRuntime, out: &[u8], err: &[u8]) -> Moved
+fn write_said(rt: &HostRuntime, out: &[u8], err: &[u8]) -> Moved
     ensures { Written (length out.now) result }
 {
     let put = write_output(rt, out);
