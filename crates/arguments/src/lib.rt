@@ -6,9 +6,11 @@ ghost use Rattle.std.specs.Prelude.{◌≡◌, true, ◌||◌, ◌≤◌, length
 ghost use Rattle.io.specs.Counts.{IsPrefixLen};
 ghost use Rattle.streams.specs.Whole.{Written};
 ghost use Rattle.figures.specs.Figures.{figure_of};
+ghost use Rattle.said.specs.declared.Said.{Said};
 ghost use Rattle.arguments.specs.Words.{Begins, longest_word, ReadFrom};
 
 use figures::read_figure;
+use said::{ERR_SIZE, Said};
 use std::ops::Range;
 use streams::{Moved, argument, argument_count, read_input, read_named, write_output, write_whole};
 use survey::decode::LARGEST_FILE;
@@ -16,13 +18,11 @@ use survey::decode::LARGEST_FILE;
 // Room to read a survey: one byte more than one may have tells that it is too long.
 pub const SURVEY_ROOM: usize = LARGEST_FILE + 1;
 
-// A program's own words, arguments `first` up to `end`, behind its name and `-f FILE`; and the argument that names the survey's file, if one does.
-// Two numbers and no `Range`, which is not copied: a program hands its words on more than once.
-#[derive(Clone, Copy)]
+// Which arguments are a program's own words, behind its name and `-f FILE`; and the argument that names the survey's file, if one does.
+#[derive(Drop)]
 pub struct Own {
     pub file: Option<usize>,
-    pub first: usize,
-    pub end: usize,
+    pub words: Range<usize>,
 }
 
 // Whether argument i is this word. One that has no room here is not.
@@ -58,23 +58,21 @@ pub fn own_words(rt: &HostRuntime) -> Own
     if 3 <= end && is_word(rt, 1, b"-f") {
         return Own {
             file: Some(2),
-            first: 3,
-            end,
+            words: 3..end,
         };
     }
     Own {
         file: None,
-        first: 1,
-        end,
+        words: 1..end,
     }
 }
 
 // Tells the program's use in place of all else: on standard output where `--help` is all that is asked, on standard error where the words
 // are not right. Answers whether it did, which is before anything is read.
-pub fn tells_use(rt: &HostRuntime, own: Own, right: bool, text: &[u8]) -> bool
+pub fn tells_use(rt: &HostRuntime, own: &Own, right: bool, text: &[u8]) -> bool
     ensures { (result || right) ≡ true }
 {
-    if own.end == 2 && is_word(rt, 1, b"--help") {
+    if own.words.end == 2 && is_word(rt, 1, b"--help") {
         write_whole(rt, &mut rt.stdout(), text);
         return true;
     }
@@ -86,7 +84,7 @@ pub fn tells_use(rt: &HostRuntime, own: Own, right: bool, text: &[u8]) -> bool
 }
 
 // The survey, whole, from the file that is named or from standard input, as far as buf has room for it.
-pub fn read_survey(rt: &HostRuntime, own: Own, buf: &mut [u8]) -> Moved
+pub fn read_survey(rt: &HostRuntime, own: &Own, buf: &mut [u8]) -> Moved
     ensures prefix_len { IsPrefixLen result.count buf.new }
     ensures buf_len_unchanged { length buf.new ≡ length buf.old }
 {
@@ -98,10 +96,26 @@ pub fn read_survey(rt: &HostRuntime, own: Own, buf: &mut [u8]) -> Moved
 
 // What is said, to standard output and then to standard error. Answers what came of the first.
 // Two texts, since each goes to a stream of its own.
-pub fn write_said(rt: &HostRuntime, out: &[u8], err: &[u8]) -> Moved
+fn write_said(rt: &HostRuntime, out: &[u8], err: &[u8]) -> Moved
     ensures { Written (length out.now) result }
 {
     let put = write_output(rt, out);
     write_whole(rt, &mut rt.stderr(), err);
     put
+}
+
+// What is said into `out`, for standard output, and into a memory of its own, for standard error: both are written. Answers what came of
+// the first.
+pub fn say<F: FnOnce(&mut [u8], &mut [u8]) -> Said>(
+    rt: &HostRuntime,
+    out: &mut [u8],
+    text: F,
+) -> Moved
+    requires callable { F.IsAlwaysCallable text }
+    requires within { (o e : _) (said : Said) (p f : _) → F.post text o e said p f → (said.out ≤ length p.now) × (said.err ≤ length f.now) }
+    ensures { (o e : _) × (said : Said) × (p f : _) × F.post text o e said p f × (p.now ≡ out.new) × Written said.out result }
+{
+    let mut err = [0u8; ERR_SIZE];
+    let said = text(out, &mut err);
+    write_said(rt, &out[..said.out], &err[..said.err])
 }

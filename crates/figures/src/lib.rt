@@ -1,36 +1,35 @@
 // Reading a figure: one to eight digits, and if they follow, a point and one or two decimals. Nothing else is one.
 #![tactic(auto)]
 
-ghost use Rattle.std.specs.Prelude.{◌^◌, ◌<◌, ◌≡◌};
-ghost use Rattle.figures.specs.Figures.{read_digit, most_digits, pointed, decimals, ended, figure_of};
+ghost use Rattle.std.specs.Prelude.{◌≡◌};
+ghost use Rattle.figures.specs.Figures.{read_digit, pointed, decimals, ended, figure_of};
 
 // The most digits of a whole part.
 const MOST_DIGITS: usize = 8;
 
 // What a digit stands for.
-fn digit(b: u8) -> Option<u64>
+fn digit(b: u8) -> Option<u32>
     ensures { result ≡ read_digit b }
 {
     match b {
-        b'0'..=b'9' => Some(u64::from(b - b'0')),
+        b'0'..=b'9' => Some(u32::from(b - b'0')),
         _ => None,
     }
 }
 
 // A whole part with what should be a point and two decimals.
-fn with_point(whole: u64, point: u8, tenth: u8, hundredth: u8) -> Option<u32>
-    requires { whole < 10 ^ most_digits }
+fn with_point(whole: u32, point: u8, tenth: u8, hundredth: u8) -> Option<u32>
     ensures { result ≡ pointed whole point tenth hundredth }
 {
     if point != b'.' {
         return None;
     }
-    u32::try_from(100 * whole + 10 * digit(tenth)? + digit(hundredth)?).ok()
+    let decimals = 10 * digit(tenth)? + digit(hundredth)?;
+    u32::try_from(100 * u64::from(whole) + u64::from(decimals)).ok()
 }
 
 // A whole part with what stands behind it. Decimals that are not written are zeros.
-fn with_decimals(whole: u64, s: &[u8]) -> Option<u32>
-    requires { whole < 10 ^ most_digits }
+fn with_decimals(whole: u32, s: &[u8]) -> Option<u32>
     ensures { result ≡ decimals whole s.now }
 {
     match s {
@@ -42,8 +41,7 @@ fn with_decimals(whole: u64, s: &[u8]) -> Option<u32>
 }
 
 // A whole part of `count` digits with what stands behind it. No digit is no whole part.
-fn with_whole(count: usize, whole: u64, s: &[u8]) -> Option<u32>
-    requires { whole < 10 ^ most_digits }
+fn with_whole(count: usize, whole: u32, s: &[u8]) -> Option<u32>
     ensures { result ≡ ended count whole s.now }
 {
     if count == 0 {

@@ -1,7 +1,7 @@
 // An inner diameter, in u: one kind of measure with its own limits, 500.00 mm to 5,000.00 mm.
 ghost use Rattle.std.specs.Prelude.{◌≡◌};
 ghost use Rattle.measure.specs.Diameter.{measured, smallest, largest};
-ghost use Rattle.measure.specs.Quantity.{diameter, diameter_units};
+ghost use Rattle.measure.specs.Quantity.{diameter_units};
 
 #[derive(Clone, Copy)]
 pub struct Diameter(u32);
@@ -24,13 +24,6 @@ impl Diameter {
         } else {
             None
         }
-    }
-
-    // The smallest diameter: what stands where there is none.
-    pub fn smallest() -> Diameter
-        ensures { result ≡ diameter smallest }
-    {
-        Diameter(Diameter::SMALLEST)
     }
 
     pub fn units(self) -> u32

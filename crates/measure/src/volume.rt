@@ -2,6 +2,8 @@
 ghost use Rattle.std.specs.Prelude.{◌≡◌, ◌+◌, ◌^◌, ◌<◌};
 ghost use Rattle.measure.specs.Quantity.{volume, volume_units};
 
+use std::ops::Add;
+
 #[derive(Clone, Copy)]
 pub struct Volume(u32);
 
@@ -22,12 +24,17 @@ impl Volume {
     {
         self.0
     }
+}
 
-    // Both volumes together.
-    pub fn plus(self, other: Volume) -> Volume
-        requires { volume_units self + volume_units other < 2 ^ 32 }
-        ensures { result ≡ volume (volume_units self + volume_units other) }
-    {
+// Both volumes together.
+impl Add for Volume {
+    type Output = Volume;
+
+    ghost can_add = { λ v w. volume_units v + volume_units w < 2 ^ 32 };
+
+    ghost add_gives = { λ v w x. x ≡ volume (volume_units v + volume_units w) };
+
+    fn add(self, other: Volume) -> Volume {
         Volume(self.0 + other.0)
     }
 }

@@ -1,11 +1,7 @@
 -- The rows of a table that are lent to be said. Assumes nothing.
 use Rattle.std.specs.Prelude.{ℕ, List, length}
 use Rattle.said.specs.declared.rows.Rows.{Rows}
-use Rattle.said.specs.Said.{Whole, whole_text}
-
--- as many as there are by DH and the step
-abbrev pub AllThere : Rows → Type 0
-AllThere t = Whole t.dh t.step (length t.cells.now) t.cells.now
+use Rattle.said.specs.Said.{whole_text}
 
 -- the line of their count, and a line for each
 abbrev pub lent_text : Rows → List ℕ

@@ -46,6 +46,8 @@ impl Line for i64 {
     }
 }
 
+// `rows_said` and `file_said` stand by themselves, and not by a bound as this one: every line has the same room, a table has more, and a file
+// what its caller lends.
 pub fn answered<A: Line>(answer: Result<A, Refusal>, out: &mut [u8], err: &mut [u8]) -> Said
     ensures { Told line_size (answer_text A.line answer) (answer_words answer) out.old out.new err.old err.new result }
 {

@@ -1,5 +1,5 @@
 // Sentences with blanks, a line each of one text: the line is found, and its blanks are filled in as it is put into lent memory.
-ghost use Rattle.std.specs.Prelude.{◌≡◌};
+ghost use Rattle.std.specs.Prelude.{◌≡◌, true, false};
 ghost use Rattle.text.specs.Wrote.{Wrote};
 ghost use Rattle.sentences.specs.Blanks.{signed, filled_in, filled};
 ghost use Rattle.sentences.specs.Text.{behind_lines, first_line};
@@ -7,17 +7,20 @@ ghost use Rattle.sentences.specs.Text.{behind_lines, first_line};
 use refusal::About;
 use text::put::Writer;
 
-// A number with its sign; as hundredths in threes, or its digits.
-fn put_signed(w: &mut Writer, z: i64, as_hundredths: bool)
-    ensures { Wrote (signed as_hundredths z) w.old w.new }
+// The digits of a number, with its sign.
+fn put_signed(w: &mut Writer, z: i64)
+    ensures { Wrote (signed false z) w.old w.new }
 {
     w.minus(z);
-    let size = z.unsigned_abs();
-    if as_hundredths {
-        w.grouped(size);
-    } else {
-        w.digits(size);
-    }
+    w.digits(z.unsigned_abs());
+}
+
+// A number as hundredths in threes, with its sign.
+fn put_grouped(w: &mut Writer, z: i64)
+    ensures { Wrote (signed true z) w.old w.new }
+{
+    w.minus(z);
+    w.grouped(z.unsigned_abs());
 }
 
 // A byte of a sentence: a blank, or itself.
@@ -27,10 +30,10 @@ fn put_filled_in(w: &mut Writer, x: About, b: u8)
 {
     match b {
         b'#' => w.digits(x.item as u64),
-        b'$' => put_signed(w, x.value, false),
-        b'~' => put_signed(w, x.value, true),
-        b'<' => put_signed(w, x.low, false),
-        b'>' => put_signed(w, x.high, false),
+        b'$' => put_signed(w, x.value),
+        b'~' => put_grouped(w, x.value),
+        b'<' => put_signed(w, x.low),
+        b'>' => put_signed(w, x.high),
         _ => w.byte(b),
     }
 }

@@ -13,7 +13,7 @@ use lookup::litres::litres_at;
 use measure::dip_height::DipHeight;
 use measure::volume::Volume;
 use refusal::Refusal;
-use rows::rows_in;
+use rows::{rows_in, schedule_of};
 use schedule::MOST_ROWS;
 use survey::decode::decode;
 use table::make::filled;
@@ -44,9 +44,10 @@ pub fn table_of(survey: &[u8]) -> Result<Tabled, Refusal>
     let v = decode(survey)?;
     let mut table = [0u32; MOST_ROWS];
     filled(Ok(v), &mut table)?;
+    let schedule = schedule_of(v);
     Ok(Tabled {
-        dh: v.tank.dh.units(),
-        step: v.step,
+        dh: schedule.dh,
+        step: schedule.step,
         rows: rows_in(v),
         table,
     })

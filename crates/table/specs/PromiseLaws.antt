@@ -11,7 +11,6 @@ use Rattle.tank.specs.TotalLaws.{InWords}
 use Rattle.tank.proofs.TotalLaws.{in_words}
 use Rattle.deadwood.specs.Share.{shares_of}
 use Rattle.survey.specs.declared.decode.Survey.{Survey}
-use Rattle.survey.specs.Survey.{items_in}
 use Rattle.rows.specs.Rows.{net_at}
 use Rattle.table.specs.declared.make.Made.{Made}
 use Rattle.table.specs.Condition3.{NetRowAt, Condition3At, EveryRow}
@@ -32,12 +31,12 @@ module _ (v : Survey) (made : Made) (left : List ℕ) (i : ℕ) (counted : i < m
   height = row_height (diameter_units v.tank.dh) v.step i
 
   pub cell_taken : EveryRow NetRowAt v (Ok made) left
-      → pos (get_or left i 0) ≡ pos (gross_at v.tank height) -ℤ shares_of (items_in v) height
+      → pos (get_or left i 0) ≡ pos (gross_at v.tank height) -ℤ shares_of v.deadwood height
   unfolding net_at
   cell_taken every = every i counted
 
   pub gross_taken : EveryRow Condition3At v (Ok made) left
-      → pos (gross_at v.tank height) ≡ pos (get_or left i 0) +ℤ shares_of (items_in v) height
+      → pos (gross_at v.tank height) ≡ pos (get_or left i 0) +ℤ shares_of v.deadwood height
   gross_taken every = (every i counted).restored
 
   pub slabs_taken : EveryRow Condition3At v (Ok made) left

@@ -57,6 +57,6 @@ impl Filling {
         let of_shell = cylinder_volume(self.shell.area(), t.l1 as u64);
         let of_flanges = cylinder_volume(self.flanges.area(), 2 * (t.l2 as u64));
         let of_heads = t.heads().volume(self.heads, in_heads);
-        of_shell.plus(of_flanges).plus(of_heads)
+        of_shell + of_flanges + of_heads
     }
 }

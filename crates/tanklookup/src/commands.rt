@@ -1,10 +1,10 @@
 // What can be asked of a table, and the line that is said to each figure.
 ghost use Rattle.std.specs.Prelude.{◌<◌, ◌≤◌, IsNone};
 
-use arguments::{are_figures, figure_at, is_word, write_said};
+use arguments::{are_figures, figure_at, is_word, say};
 use refusal::Refusal;
 use report::lookups::{delivered_said, height_said, litres_said};
-use said::{ERR_SIZE, LINE_SIZE};
+use said::LINE_SIZE;
 use std::ops::Range;
 use survey_lookup::Tabled;
 
@@ -51,24 +51,15 @@ fn hundredths_at(rt: &HostRuntime, i: usize) -> u32 {
 fn tell(rt: &HostRuntime, command: Command, t: Result<Tabled, Refusal>, i: usize) -> bool
     requires { i < usize.MAX }
 {
-    let mut out = [0u8; LINE_SIZE];
-    let mut err = [0u8; ERR_SIZE];
     let asked = hundredths_at(rt, i);
     // One match, and no function that is handed on: delivered takes a figure more than the others.
-    let said = match command {
-        Command::Litres => litres_said(t, asked, &mut out, &mut err),
-        Command::Height => height_said(t, asked, &mut out, &mut err),
-        Command::Delivered => delivered_said(
-            t,
-            asked,
-            hundredths_at(rt, i + 1),
-            &mut out,
-            &mut err,
-        ),
-    };
-    write_said(rt, &out[..said.out], &err[..said.err])
-        .end
-        .is_ok()
+    say(rt, &mut [0u8; LINE_SIZE], |out, err| match command {
+        Command::Litres => litres_said(t, asked, out, err),
+        Command::Height => height_said(t, asked, out, err),
+        Command::Delivered => delivered_said(t, asked, hundredths_at(rt, i + 1), out, err),
+    })
+    .end
+    .is_ok()
 }
 
 // A line for each figure, which are these arguments, up to the first that could not be written. A survey that is refused is told once,

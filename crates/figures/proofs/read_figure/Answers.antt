@@ -1,24 +1,15 @@
 -- `figures::read_figure` meets its contract: a turn reads the digit at its place, and behind the digits it is the decimals' turn. Assumes
 -- nothing.
-use Rattle.std.proofs.Common.{ℕ, ◌-◌, ◌^◌, ◌≤◌, ◌<◌, ◌≡◌, refl, sym, ◌∙◌, ap, true, false, arith, add-one, length, length-drop, get_or, drop, drop_of_length-le, take_all}
+use Rattle.std.proofs.Common.{◌-◌, ◌≡◌, refl, sym, ◌∙◌, ap, true, false, arith, add-one, length, length-drop, get_or, drop, drop_of_length-le, take_all}
 use Rattle.std.proofs.lemmas.Bool.Decides.{nat_tests}
-use Rattle.std.proofs.Math.Nat.{lt_of_lt_of_le, pow-le-pow_right, pow-suc, zero-lt-suc}
-use Rattle.figures.specs.Figures.{value_of, most_digits, ended, figure_from, figure_of}
+use Rattle.std.proofs.Math.Nat.{pow-suc}
+use Rattle.figures.specs.Figures.{value_of, ended, figure_from, figure_of}
 use Rattle.figures.specs.FiguresLaws.{whole_place, place, figure_on, figure_ended}
 use Rattle.figures.proofs.read_figure.Goals as goal
-
-below : {i n : ℕ} → i ≤ most_digits → n < 10 ^ i → n < 10 ^ most_digits
-below l h = lt_of_lt_of_le h (pow-le-pow_right (zero-lt-suc 9) l)
 
 pub loop-count-init : goal.loop-count-init
 unfolding figure_of
 loop-count-init c = (omega arith, omega arith, refl)
-
-pub with_whole-requires : goal.with_whole-requires
-with_whole-requires c = below c.loop-count.invariant.0 c.loop-count.invariant.1
-
-pub with_whole-requires-2 : goal.with_whole-requires-2
-with_whole-requires-2 c = below c.loop-count.invariant.0 c.loop-count.invariant.1
 
 pub loop-count-preserved : goal.loop-count-preserved
 loop-count-preserved c =

@@ -5,10 +5,10 @@ use Rattle.said.specs.SaidLaws.{whole_taken}
 use Rattle.survey_lookup.specs.TabledLaws.{ready_file}
 use Rattle.report.proofs.capacity_table.table_said.Goals as goal
 
-pub rows_said-requires : goal.rows_said-requires
-rows_said-requires c =
+pub invariant_of-rows : goal.invariant_of-rows
+invariant_of-rows c =
     let t = ready_file _ c.in-Ok.ensures in
-    rw (c.own_rows.ensures, length-take-le _ _ t.inside) (t.step_low, t.rows_are, t.few, omega arith)
+    rw (c.own_rows.ensures, length-take-le _ _ t.inside) (record { all_there = (t.step_low, t.rows_are, t.few, omega arith) })
 
 pub returns-in-Ok : goal.returns-in-Ok
 returns-in-Ok c =

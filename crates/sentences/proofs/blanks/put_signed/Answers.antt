@@ -3,12 +3,7 @@ use Rattle.std.proofs.Common.{to_z-of_z}
 use Rattle.text.specs.WroteLaws.{wrote_both}
 use Rattle.sentences.proofs.blanks.put_signed.Goals as goal
 
-pub returns-then-as_hundredths : goal.returns-then-as_hundredths
-returns-then-as_hundredths c =
+pub returns : goal.returns
+returns c =
     let plain = to_z-of_z c.ranges.z in
-    rw c.if-as_hundredths.true (wrote_both (rw plain at c.minus.ensures) (rw (c.unsigned_abs-size.ensures.value, plain) at c.grouped.ensures))
-
-pub returns-else-as_hundredths : goal.returns-else-as_hundredths
-returns-else-as_hundredths c =
-    let plain = to_z-of_z c.ranges.z in
-    rw c.if-as_hundredths.false (wrote_both (rw plain at c.minus.ensures) (rw (c.unsigned_abs-size.ensures.value, plain) at c.digits.ensures))
+    wrote_both (rw plain at c.minus.ensures) (rw (c.unsigned_abs.ensures.value, plain) at c.digits.ensures)

@@ -8,4 +8,4 @@ pub returns-clause-says : goal.returns-clause-says
 returns-clause-says c =
     let count = c.rows_line.ensures in
     let rows = c.put_rows.ensures in
-    says (rw length-append (omega (arith, count.short, rows.short, c.requires))) (wrote_left (wrote_both count.put rows.put) (search rules))
+    says (rw length-append (omega (arith, count.short, rows.short))) (wrote_left (wrote_both count.put rows.put) (search rules))

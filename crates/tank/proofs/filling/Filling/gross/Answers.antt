@@ -56,8 +56,8 @@ cylinder_volume-of_flanges-requires c =
 pub volume-of_heads-requires-clause-inside : goal.volume-of_heads-requires-clause-inside
 volume-of_heads-requires-clause-inside c = rw (c.heads.ensures.1, c.corrected-in_heads.ensures, ← c.t.view_is) (corrected_at_most _ _ _)
 
-pub plus-requires : goal.plus-requires
-plus-requires c =
+pub add-requires : goal.add-requires
+add-requires c =
     let t = sizes c.t.inside in
     let h = dip_units c.args.h in
     let there = rw (← c.t.view_is) at c.requires in
@@ -66,15 +66,15 @@ plus-requires c =
     c.corrected-in_heads.ensures c.cylinder_volume-of_shell.ensures c.cylinder_volume-of_flanges.ensures (rw (c.heads.ensures.0, c.heads.ensures.1, c.heads.ensures.2, ← c.t.view_is) at c.volume-of_heads.ensures) in
     omega (arith, all, gross_small t h c.t.invariant)
 
-pub plus-requires-2 : goal.plus-requires-2
-plus-requires-2 c =
+pub add-requires-2 : goal.add-requires-2
+add-requires-2 c =
     let t = sizes c.t.inside in
     let h = dip_units c.args.h in
     let there = rw (← c.t.view_is) at c.requires in
     let all =
     together t h (c.area.ensures ∙ ap (λ f. f.shell.area) there) (c.area-2.ensures ∙ ap (λ f. f.flanges.area) there)
     c.corrected-in_heads.ensures c.cylinder_volume-of_shell.ensures c.cylinder_volume-of_flanges.ensures (rw (c.heads.ensures.0, c.heads.ensures.1, c.heads.ensures.2, ← c.t.view_is) at c.volume-of_heads.ensures) in
-    rw c.plus.ensures (omega (arith, all, gross_small t h c.t.invariant))
+    rw c.add.ensures (omega (arith, all, gross_small t h c.t.invariant))
 
 pub returns : goal.returns
 returns c =
@@ -85,4 +85,4 @@ returns c =
     let all =
     together t h (c.area.ensures ∙ ap (λ f. f.shell.area) there) (c.area-2.ensures ∙ ap (λ f. f.flanges.area) there)
     c.corrected-in_heads.ensures c.cylinder_volume-of_shell.ensures c.cylinder_volume-of_flanges.ensures (rw (c.heads.ensures.0, c.heads.ensures.1, c.heads.ensures.2, ← c.t.view_is) at c.volume-of_heads.ensures) in
-    rw (← c.t.view_is) (c.plus-2.ensures ∙ ap volume (ap (λ x. volume_units x + volume_units heads) c.plus.ensures ∙ all))
+    rw (← c.t.view_is) (c.add-2.ensures ∙ ap volume (ap (λ x. volume_units x + volume_units heads) c.add.ensures ∙ all))
