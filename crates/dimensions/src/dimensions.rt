@@ -46,7 +46,14 @@ pub(crate) fn lengths_tested(t: Sums, l1: u32) -> Result<(), Refusal>
     ensures { result ≡ verdict (lengths_test t l1 ∷ []) }
 {
     let most = allowance(t);
-    limited(6, 0, OF_LENGTHS, 0, u64::from(t.lengths), l1 - most..=l1 + most)
+    limited(
+        6,
+        0,
+        OF_LENGTHS,
+        0,
+        u64::from(t.lengths),
+        l1 - most..=l1 + most,
+    )
 }
 
 // Of circumferences, in pairs, weighted by lengths.
@@ -103,7 +110,12 @@ fn unfit(sentence: u32, dh: u32, d: u32) -> Refusal
     Refusal {
         number: 7,
         place: 0,
-        about: about_of(sentence, dh, u64::from(d), Diameter::SMALLEST..=Diameter::LARGEST),
+        about: about_of(
+            sentence,
+            dh,
+            u64::from(d),
+            Diameter::SMALLEST..=Diameter::LARGEST,
+        ),
     }
 }
 

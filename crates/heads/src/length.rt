@@ -5,27 +5,18 @@ ghost use Rattle.heads.specs.Length.{shortest_of, longest_of, fits_diameter};
 
 use crate::kind::HeadKind;
 use measure::diameter::Diameter;
+use std::ops::RangeInclusive;
 
 // The longest head of any kind, in u.
 pub const LONGEST: u32 = 260_000;
 
 // The limits of a kind.
-
-pub fn shortest_of(kind: HeadKind) -> u32
-    ensures { result ≡ shortest_of kind }
+pub fn lengths_of(kind: HeadKind) -> RangeInclusive<u32>
+    ensures { (result.start ≡ shortest_of kind) × (result.end ≡ longest_of kind) }
 {
     match kind {
-        HeadKind::Flat => 0,
-        HeadKind::HalfEllipsoid | HeadKind::SphericalCap => 1,
-    }
-}
-
-pub fn longest_of(kind: HeadKind) -> u32
-    ensures { result ≡ longest_of kind }
-{
-    match kind {
-        HeadKind::Flat => 0,
-        HeadKind::HalfEllipsoid | HeadKind::SphericalCap => LONGEST,
+        HeadKind::Flat => 0..=0,
+        HeadKind::HalfEllipsoid | HeadKind::SphericalCap => 1..=LONGEST,
     }
 }
 

@@ -8,7 +8,7 @@ use crate::limits::{LONGEST_CIRCUMFERENCE, SHORTEST_CIRCUMFERENCE, SHORTEST_SHEL
 use file::layout;
 use file::word::word;
 use heads::kind::HeadKind;
-use heads::length::{longest_of, shortest_of};
+use heads::length::lengths_of;
 use measure::diameter::Diameter;
 use records::record::{Record, limit};
 use refusal::Refusal;
@@ -53,6 +53,6 @@ pub fn header_tested(s: &[u8]) -> Result<(), Refusal>
     let kind = HeadKind::of(word(s, layout::KIND));
     shell_tested(s)?;
     header_limit(s, layout::L2, 0..=LONGEST_FLANGE)?;
-    header_limit(s, layout::L3, shortest_of(kind)..=longest_of(kind))?;
+    header_limit(s, layout::L3, lengths_of(kind))?;
     header_limit(s, layout::STEP, SMALLEST_STEP..=LARGEST_STEP)
 }
