@@ -9,6 +9,8 @@ ghost use Rattle.correction.specs.Correction.{corrected_height};
 use measure::diameter::Diameter;
 use measure::dip_height::DipHeight;
 
+// That it is not above its part's diameter is a clause where that matters: with the diameter in it, all that is made of a height would be handed the
+// diameter twice.
 #[derive(Clone, Copy)]
 pub struct ShellHeight(u32);
 

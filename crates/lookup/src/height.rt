@@ -14,7 +14,7 @@ use refusal::{Refusal, limited};
 use sentences::OF_VOLUME;
 
 // The lowest height is one of low to high. Look at the middle, rounded down: it is above the middle if the litres there are too
-// few, else the middle or below.
+// few, else the middle or below. Not `partition_point`: there is no slice of the heights, of which only some are rows.
 #[tactic(auto, using(crate::proofs::HeightLaws::among_all, crate::proofs::HeightLaws::among_one, crate::proofs::HeightLaws::lowest_is))]
 fn lowest(table: &SoundTable, w: u32) -> u32
     requires { w ≤ last_row table.now.schedule.dh table.now.schedule.step table.now.rows.now }
@@ -34,7 +34,7 @@ fn lowest(table: &SoundTable, w: u32) -> u32
 }
 
 // On any table, for any volume: the whole answer; of a height, that it is the lowest with at least this volume; and that refusal 13,
-// about the two, is given exactly for a volume above the last row.
+// about the two, is given exactly for a volume above the last row. DH, step and rows as the caller has them, and as C hands them on.
 #[tactic(auto, unfolding(crate::specs::Answer::height_answer))]
 pub fn height_for(dh: u32, step: u32, table: &[u32], volume: Volume) -> Result<DipHeight, Refusal>
     ensures value { result ≡ height_answer dh step table.now (volume_units volume) }

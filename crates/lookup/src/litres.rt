@@ -13,6 +13,7 @@ use sentences::OF_HEIGHT;
 
 // On any table, at any height: the whole answer; of a volume, that it is the row at a row's height, else on the line between the rows
 // below and above, and never falls with the height; and that refusal 12, about the two, is given exactly for a height above DH.
+// DH, step and rows as the caller has them, a step of 0 too, and as C hands them on: what is sound is tested here.
 #[tactic(auto, using(crate::proofs::AnswerLaws::on_table_told), unfolding(crate::specs::Answer::litres_answer))]
 pub fn litres_at(dh: u32, step: u32, table: &[u32], height: DipHeight) -> Result<Volume, Refusal>
     ensures value { result ≡ litres_answer dh step table.now (dip_units height) }

@@ -11,7 +11,7 @@ use crate::tests::rows_tested;
 use refusal::Refusal;
 use schedule::Schedule;
 
-// The rows fit their cells.
+// The rows fit their cells. Over indices: the law that carries the loop (`Filled`) is about the index.
 #[tactic(auto, using(laws::specs::FillLaws::filled_none))]
 fn copy_rows(net: &[i64], table: &mut [u32])
     requires { (length net.now ≤ length table.old) × ((i : ℕ) → i < length net.now → cell_in net.now i < 2 ^ 32) }

@@ -41,7 +41,7 @@ fn net_at(survey: &Survey, filling: Filling, h: DipHeight) -> i64
     i64::from(filling.gross(survey.tank, h).units()) - sum_of_shares(survey.deadwood(), h)
 }
 
-// The net rows into `out`, which has room for just them. Each fits a cell.
+// The net rows into `out`, which has room for just them. Each fits a cell. Over indices: the law that carries the loop (`Filled`) is about the index.
 #[tactic(auto, using(laws::specs::FillLaws::filled_none))]
 pub fn net_rows(survey: Survey, out: &mut [i64])
     requires { length out.old ≡ rows_in survey }

@@ -1,4 +1,5 @@
-// What is said of an answer in hand, put into lent memory: a text for standard output and one for standard error.
+// What is said of an answer in hand, put into lent memory: a text for standard output and one for standard error. Both memories are the caller's, who
+// writes each to a stream of its own.
 #![tactic(auto)]
 
 pub mod answers;

@@ -66,7 +66,7 @@ impl Survey {
     }
 }
 
-// The deadwood items as one list of records.
+// The deadwood items as one list of records. Over indices: the law that carries the loop (`Filled`) is about the index.
 fn items(f: Format, s: &[u8]) -> [Deadwood; MOST_ITEMS]
     requires { Placed f s.now }
     ensures { result ≡ filled_up (items_of f s.now) }
@@ -124,7 +124,7 @@ pub fn decode(s: &[u8]) -> Result<Survey, Refusal>
     decode_as(Format::today(), s)
 }
 
-// .. with a header of 48 bytes.
+// .. with a header of 48 bytes. A name of its own and no format handed in: above this room nobody names a file's bytes.
 pub fn decode_48(s: &[u8]) -> Result<Survey, Refusal>
     ensures { result ≡ decoded_as format48 s.now }
 {

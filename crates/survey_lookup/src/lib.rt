@@ -18,7 +18,8 @@ use schedule::MOST_ROWS;
 use survey::decode::decode;
 use table::make::filled;
 
-// A survey's table with what a lookup takes beside it. With no heap the memory has room for the most rows, and counts its own.
+// A survey's table with what a lookup takes beside it. With no heap the memory has room for the most rows, and counts its own. No invariant: the lookups
+// below promise their answer of whatever one holds.
 #[derive(Clone, Copy)]
 pub struct Tabled {
     pub dh: u32,
@@ -52,6 +53,8 @@ pub fn table_of(survey: &[u8]) -> Result<Tabled, Refusal>
         table,
     })
 }
+
+// The three lookups are functions of their own: each promises another thing of the table outright, and what they share is a line.
 
 // The litres at a dip height, on a table in hand: the whole answer, whatever that holds; and that on the table of a survey file it is the
 // answer from the file, which is the first refusal, the survey's, the table's or the lookup's, or what stands on the survey's own table.

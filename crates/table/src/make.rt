@@ -23,7 +23,7 @@ pub struct Made {
     pub rows: u32,
 }
 
-// A refusal's number and place, which is all of it that the answer keeps.
+// A refusal's number and place, which is all of it that the answer keeps: the paper's numbers, as in `Refusal`.
 #[derive(Clone, Copy)]
 pub struct NumberedRefusal {
     pub number: u32,
@@ -42,6 +42,7 @@ impl From<Refusal> for NumberedRefusal {
 }
 
 // The rows of a survey that is not refused into the table: worked out apart, tested, and copied last.
+// `judge` works them out in the same three lines: one function for both would lend the rows to what comes last, which writes here and does not there.
 fn fill(v: Survey, table: &mut [u32]) -> Result<(), Refusal>
     ensures value { result ≡ verdict (table_tests v (length table.old)) }
     ensures table_after { table.new ≡ left_by result (cell_of v) (rows_in v) table.old }
