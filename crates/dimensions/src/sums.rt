@@ -78,6 +78,7 @@ fn sum_of(s: &[u8], at: usize, rise: u64) -> Sums
 
 // Over all courses of a file that passes refusals 1 to 5.
 // `NumbersFit` is of a format and of bytes: a clause, as `file::section::courses` says.
+// That there is a course is no invariant of the sums: they start from none, and from the first it would have to be summed in two places.
 pub(crate) fn file_sums(f: Format, s: &[u8]) -> Sums
     requires { NumbersFit f s.now }
     ensures value { result ≡ sums_of f s.now }
