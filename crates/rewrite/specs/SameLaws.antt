@@ -78,7 +78,6 @@ module _ (f : Format) (s : List ℕ) (g : Format) (t : List ℕ) (same : SameNum
         same_d1,
         same_d2,
         same_items,
-        same.deadwood_count,
         same.header kind_at (omega arith),
         same.header dh_at (omega arith),
         same.header l1_at (omega arith),
