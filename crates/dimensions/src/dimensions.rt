@@ -1,7 +1,6 @@
 // D1 and D2 from the sums over the courses, and their tests.
 ghost use Rattle.std.specs.Prelude.{◌≡◌, [], ◌∷◌, ◌+◌, ◌*◌, ◌^◌, ◌≤◌, ◌<◌};
 ghost use Rattle.laws.specs.Order.{pick};
-ghost use Rattle.measure.specs.Diameter.{smallest, largest};
 ghost use Rattle.measure.specs.Pi.{pi_under};
 ghost use Rattle.measure.specs.Quantity.{diameter, diameter_units};
 ghost use Rattle.refusal.specs.Test.{verdict, refusal_of};
@@ -119,14 +118,13 @@ fn unfit(sentence: u32, dh: u32, d: u32) -> Refusal
     }
 }
 
-// DH, D1 and D2; DH is within its limits.
-pub(crate) fn diameters_of(d1: u32, d2: u32, dh: u32) -> Result<Diameters, Refusal>
-    requires { (smallest ≤ dh) × (dh ≤ largest) }
-    ensures { result ≡ judged_with (verdict (diameter_tests dh d1 d2)) dh d1 d2 }
+// DH, D1 and D2.
+pub(crate) fn diameters_of(d1: u32, d2: u32, dip_point: Diameter) -> Result<Diameters, Refusal>
+    ensures { result ≡ judged_with (verdict (diameter_tests (diameter_units dip_point) d1 d2)) (diameter_units dip_point) d1 d2 }
 {
+    let dh = dip_point.units();
     let shell = fitting(d1, dh).ok_or(unfit(OF_SHELL_DIAMETER, dh, d1))?;
     let heads = fitting(d2, dh).ok_or(unfit(OF_HEAD_DIAMETER, dh, d2))?;
-    let dip_point = Diameter::of(dh as u64).unwrap();
     Ok(Diameters {
         dh: dip_point,
         d1: shell,
@@ -135,10 +133,9 @@ pub(crate) fn diameters_of(d1: u32, d2: u32, dh: u32) -> Result<Diameters, Refus
 }
 
 // Refusal 14: whether D2 allows the length of one head.
-pub(crate) fn heads_tested(found: Diameters, kind: HeadKind, l3: u32) -> Result<(), Refusal>
-    ensures { result ≡ verdict (head_length_test kind (diameter_units found.d2) l3 ∷ []) }
+pub(crate) fn heads_tested(d2: Diameter, kind: HeadKind, l3: u32) -> Result<(), Refusal>
+    ensures { result ≡ verdict (head_length_test kind (diameter_units d2) l3 ∷ []) }
 {
-    let d2 = found.d2;
     let d = d2.units();
     let about = about_of(OF_HEAD_LENGTH, d, u64::from(l3), 0..=d / 2);
     one_test(14, 0, fits_diameter(kind, d2, l3), about)

@@ -1,7 +1,6 @@
 // Refusals 6, 7 and 14, and the diameters of a file that none of them is given to.
 ghost use Rattle.std.specs.Prelude.{◌≡◌, [], ◌∷◌, ◌≤◌, length};
-ghost use Rattle.measure.specs.Diameter.{smallest, largest};
-ghost use Rattle.measure.specs.Quantity.{diameter_units};
+ghost use Rattle.measure.specs.Quantity.{diameter, diameter_units};
 ghost use Rattle.refusal.specs.Test.{verdict};
 ghost use Rattle.heads.specs.Kind.{kind_of};
 ghost use Rattle.file.specs.Word.{word};
@@ -18,26 +17,27 @@ use file::format::Format;
 use file::layout;
 use file::word::word;
 use heads::kind::HeadKind;
+use measure::diameter::Diameter;
 use refusal::Refusal;
 
-// The diameters of a file with these sums.
-fn diameters_in(s: &[u8], t: Sums) -> Result<Diameters, Refusal>
+// The diameters of a file with these sums and this DH.
+fn diameters_in(s: &[u8], t: Sums, dip_point: Diameter) -> Result<Diameters, Refusal>
     requires some_course { (header_end ≤ length s.now) × (1 ≤ t.count) }
-    requires dh_fits { (smallest ≤ word s.now dh_at) × (word s.now dh_at ≤ largest) }
+    requires dh { dip_point ≡ diameter (word s.now dh_at) }
     ensures { result ≡ diameters_judged s.now t }
 {
     let d1 = shell_diameter(t);
     let d2 = head_diameter(t, word(s, layout::LEFT), word(s, layout::RIGHT));
-    diameters_of(d1, d2, word(s, layout::DH))
+    diameters_of(d1, d2, dip_point)
 }
 
 // Refusal 14 of the file's heads.
-fn heads_in(s: &[u8], found: Diameters) -> Result<(), Refusal>
+fn heads_in(s: &[u8], d2: Diameter) -> Result<(), Refusal>
     requires { header_end ≤ length s.now }
-    ensures { result ≡ verdict (head_length_test (kind_of (word s.now kind_at)) (diameter_units found.d2) (word s.now l3_at) ∷ []) }
+    ensures { result ≡ verdict (head_length_test (kind_of (word s.now kind_at)) (diameter_units d2) (word s.now l3_at) ∷ []) }
 {
     let kind = HeadKind::of(word(s, layout::KIND));
-    heads_tested(found, kind, word(s, layout::L3))
+    heads_tested(d2, kind, word(s, layout::L3))
 }
 
 // A file that passes refusals 1 to 5: refusals 6, 7 and 14.
@@ -47,7 +47,8 @@ pub fn measured(f: Format, s: &[u8]) -> Result<Diameters, Refusal>
 {
     let t = file_sums(f, s);
     lengths_tested(t, word(s, layout::L1))?;
-    let found = diameters_in(s, t)?;
-    heads_in(s, found)?;
+    let dip_point = Diameter::of(u64::from(word(s, layout::DH))).unwrap();
+    let found = diameters_in(s, t, dip_point)?;
+    heads_in(s, found.d2)?;
     Ok(found)
 }

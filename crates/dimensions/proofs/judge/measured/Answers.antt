@@ -1,6 +1,6 @@
 -- `dimensions::judge::measured` meets its contract: the sums are the definition's, and so are the tests made of them. Assumes nothing.
 use Rattle.std.specs.Prelude.{Ok, Err}
-use Rattle.std.proofs.Common.{arith, List, [], ◌∷◌, ◌++◌, ◌≡◌, refl, sym, ◌∙◌, ap, ℕ}
+use Rattle.std.proofs.Common.{rules, arith, List, [], ◌∷◌, ◌++◌, ◌≡◌, refl, sym, ◌∙◌, ap, ℕ}
 use Rattle.std.proofs.lemmas.Result.{err_from_is_err_and}
 use Rattle.measure.specs.Quantity.{diameter, diameter_units}
 use Rattle.refusal.specs.declared.Refusal.{Refusal}
@@ -68,8 +68,8 @@ lengths_tested-requires c =
     let shell = shell_fits f s (as_they_stand f s c.requires) in
     rw (c.word.ensures, c.file_sums-t.ensures.value) (omega (arith, shell, few), omega (arith, shell, few))
 
-pub diameters_in-requires-clause-dh_fits : goal.diameters_in-requires-clause-dh_fits
-diameters_in-requires-clause-dh_fits c = dh_fits c.args.f c.args.s.now (as_they_stand _ _ c.requires)
+pub unwrap-dip_point-requires : goal.unwrap-dip_point-requires
+unwrap-dip_point-requires c = search (rules, dh_fits c.args.f c.args.s.now (as_they_stand _ _ c.requires))
 
 pub returns-in_err-lengths_tested : goal.returns-in_err-lengths_tested
 returns-in_err-lengths_tested c =
