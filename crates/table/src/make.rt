@@ -72,10 +72,11 @@ pub fn tabulate(file: Result<Survey, Refusal>, table: &mut [u32]) -> Result<Made
 {
     let v = file?;
     fill(v, table)?;
+    let rows = rows_in(v) as u32;
     Ok(Made {
         d1: v.tank.d1,
         d2: v.tank.d2,
-        rows: rows_in(v) as u32,
+        rows,
     })
 }
 

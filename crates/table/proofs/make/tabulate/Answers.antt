@@ -42,7 +42,7 @@ unfolding made
 returns-clause-value c =
     let tank = c.v-inside.view_is in
     let survey = c.v.view_is in
-    rw (c.in_ok-v.was, ← c.in_ok-fill.ensures.value, c.rows_in.ensures.0, ap (λ v. v.tank.d1) tank, ap (λ v. v.tank.d2) tank, ap (λ v. v.tank.d1) survey, ap (λ v. v.tank.d2) survey)
+    rw (c.in_ok-v.was, ← c.in_ok-fill.ensures.value, c.rows_in-rows.ensures.0, ap (λ v. v.tank.d1) tank, ap (λ v. v.tank.d2) tank, ap (λ v. v.tank.d1) survey, ap (λ v. v.tank.d2) survey)
 
 pub returns-clause-table_after : goal.returns-clause-table_after
 unfolding table_left
