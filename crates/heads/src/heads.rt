@@ -1,6 +1,6 @@
 // The heads of a tank, of one kind, within the limits of that kind and of their diameter.
-ghost use Rattle.std.specs.Prelude.{◌≡◌, ◌≤◌, ◌<◌};
-ghost use Rattle.measure.specs.Diameter.{largest};
+ghost use Rattle.std.specs.Prelude.{◌≡◌};
+ghost use Rattle.measure.specs.Diameter.{DiameterLimits};
 ghost use Rattle.measure.specs.Quantity.{diameter_units};
 ghost use Rattle.heads.specs.LengthLaws.{HeadLimits};
 
@@ -14,8 +14,6 @@ pub struct Heads {
     pub kind: HeadKind,
     pub d: Diameter,
     pub l: u32,
-    pub ghost some: { 0 < diameter_units d },
-    pub ghost high: { diameter_units d ≤ largest },
     pub ghost limits: { HeadLimits kind (diameter_units d) l },
 }
 
@@ -23,7 +21,8 @@ impl Heads {
     // The dome that each of two spherical caps is.
     pub(crate) fn dome(self) -> Dome
         requires { self.kind ≡ HeadKind.SphericalCap }
-        ensures { (result.d ≡ diameter_units self.d) × (result.l ≡ self.l) }
+        ensures value { (result.d ≡ diameter_units self.d) × (result.l ≡ self.l) }
+        ensures limits { DiameterLimits (diameter_units self.d) }
     {
         Dome {
             d: self.d.units() as u64,

@@ -17,10 +17,10 @@ abbrev pub volume_units : Volume → ℕ
 volume_units v = v.0
 
 abbrev pub diameter : ℕ → Diameter
-diameter n = record { 0 = n }
+diameter n = record { units = n }
 
 abbrev pub diameter_units : Diameter → ℕ
-diameter_units d = d.0
+diameter_units d = d.units
 
 -- one v in cubic u
 abbrev pub cubic_per_v : ℕ

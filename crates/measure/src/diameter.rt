@@ -1,10 +1,27 @@
 // An inner diameter, in u: one kind of measure with its own limits, 500.00 mm to 5,000.00 mm.
 ghost use Rattle.std.specs.Prelude.{◌≡◌};
-ghost use Rattle.measure.specs.Diameter.{measured, smallest, largest};
+ghost use Rattle.measure.specs.Diameter.{DiameterLimits, measured, smallest, largest};
 ghost use Rattle.measure.specs.Quantity.{diameter_units};
 
+use std::marker::Model;
+
+// Every diameter is within the limits. The definitions speak of any size.
 #[derive(Clone, Copy)]
 pub struct Diameter(u32);
+
+impl Model for Diameter {
+    ghost use Rattle.measure.specs.Size.{Size};
+
+    ghost Value = { Size };
+
+    ghost use Rattle.measure.specs.Diameter.{DiameterLimits};
+
+    ghost view = { λ d. record { units = d.0 } };
+
+    ghost invariant = { λ d. DiameterLimits d.0 };
+
+    ghost inverse = { λ d. record { 0 = d.units } };
+}
 
 impl Diameter {
     pub const SMALLEST: u32 = 50_000;
@@ -26,8 +43,10 @@ impl Diameter {
         }
     }
 
+    // That it is within the limits is told too, for whoever goes on with the number.
     pub fn units(self) -> u32
-        ensures { result ≡ diameter_units self }
+        ensures value { result ≡ diameter_units self }
+        ensures limits { DiameterLimits (diameter_units self) }
     {
         self.0
     }

@@ -22,13 +22,14 @@ overflow_cast-both c =
     let a = c.args in
     let heads = a.self in
     let d = diameter_units heads.d in
+    let limits = c.units-d.ensures.limits in
     omega (
       arith,
-      rounded d heads.l a.h c.units-d.ensures c.nearest_of_product-both.ensures,
-      half_ellipsoids_at_most d heads.l a.h c.requires heads.some heads.high heads.limits.high,
+      rounded d heads.l a.h c.units-d.ensures.value c.nearest_of_product-both.ensures,
+      half_ellipsoids_at_most d heads.l a.h c.requires (omega (arith, limits.low)) limits.high heads.limits.high,
     )
 
 pub returns : goal.returns
 returns c =
     let heads = c.args.self in
-    c.from.ensures ∙ ap volume (rounded (diameter_units heads.d) heads.l c.args.h c.units-d.ensures c.nearest_of_product-both.ensures)
+    c.from.ensures ∙ ap volume (rounded (diameter_units heads.d) heads.l c.args.h c.units-d.ensures.value c.nearest_of_product-both.ensures)

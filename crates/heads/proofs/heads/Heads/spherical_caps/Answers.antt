@@ -35,8 +35,8 @@ overflow_add-totals c =
     let p = c.requires in
     omega (
       arith,
-      both d heads.l c.args.h c.filled-totals.result (of_heads c.args.h c.dome.ensures c.filled-totals.ensures),
-      dome_small d heads.l c.args.h p.1 heads.high (rw p.0 at heads.limits),
+      both d heads.l c.args.h c.filled-totals.result (of_heads c.args.h c.dome.ensures.value c.filled-totals.ensures),
+      dome_small d heads.l c.args.h p.1 c.dome.ensures.limits.high (rw p.0 at heads.limits),
     )
 
 pub nearest_quotient-requires : goal.nearest_quotient-requires
@@ -47,8 +47,8 @@ nearest_quotient-requires c =
       omega arith,
       omega (
         arith,
-        both d heads.l c.args.h c.filled-totals.result (of_heads c.args.h c.dome.ensures c.filled-totals.ensures),
-        dome_small d heads.l c.args.h p.1 heads.high (rw p.0 at heads.limits),
+        both d heads.l c.args.h c.filled-totals.result (of_heads c.args.h c.dome.ensures.value c.filled-totals.ensures),
+        dome_small d heads.l c.args.h p.1 c.dome.ensures.limits.high (rw p.0 at heads.limits),
       ),
     )
 
@@ -59,8 +59,8 @@ overflow_cast-nearest_quotient c =
     let p = c.requires in
     omega (
       arith,
-      c.nearest_quotient.ensures ∙ halfway d heads.l c.args.h c.filled-totals.result (of_heads c.args.h c.dome.ensures c.filled-totals.ensures),
-      heads_at_most SphericalCap d heads.l c.args.h p.1 heads.some heads.high (rw p.0 at heads.limits),
+      c.nearest_quotient.ensures ∙ halfway d heads.l c.args.h c.filled-totals.result (of_heads c.args.h c.dome.ensures.value c.filled-totals.ensures),
+      heads_at_most SphericalCap d heads.l c.args.h p.1 (omega (arith, c.dome.ensures.limits.low)) c.dome.ensures.limits.high (rw p.0 at heads.limits),
     )
 
 pub returns : goal.returns
@@ -69,5 +69,5 @@ returns c =
     c.from.ensures
     ∙ ap volume (
     c.nearest_quotient.ensures
-    ∙ halfway (diameter_units heads.d) heads.l c.args.h c.filled-totals.result (of_heads c.args.h c.dome.ensures c.filled-totals.ensures)
+    ∙ halfway (diameter_units heads.d) heads.l c.args.h c.filled-totals.result (of_heads c.args.h c.dome.ensures.value c.filled-totals.ensures)
     )
