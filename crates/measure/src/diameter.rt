@@ -5,6 +5,7 @@ ghost use Rattle.measure.specs.Quantity.{diameter_units};
 
 use std::marker::Model;
 
+// Every diameter is within the limits. The definitions speak of any size.
 #[derive(Clone, Copy)]
 pub struct Diameter(u32);
 
@@ -42,6 +43,7 @@ impl Diameter {
         }
     }
 
+    // That it is within the limits is told too, for whoever goes on with the number.
     pub fn units(self) -> u32
         ensures value { result ≡ diameter_units self }
         ensures limits { DiameterLimits (diameter_units self) }

@@ -1,7 +1,6 @@
 -- `tank::filling::Filling::on_to` meets its contract: each walk goes on to its corrected height, which it has not passed and
 -- which is within its diameter. Assumes nothing.
-use Rattle.std.proofs.Common.{arith, ◌≡◌, ℕ, ◌^◌, ◌≤◌, ◌<◌}
-use Rattle.measure.specs.Diameter.{largest}
+use Rattle.std.proofs.Common.{◌≡◌, ℕ, ◌≤◌}
 use Rattle.correction.specs.declared.shell_height.ShellHeight.{ShellHeight}
 use Rattle.correction.specs.ShellHeight.{shell_height, shell_units}
 use Rattle.correction.specs.Correction.{corrected_height}
