@@ -91,5 +91,5 @@ pub fn milechime_convert_words(survey: &[u8], header: u32) -> Words
     if header == old {
         return in_words(judged(decode_48(survey), MOST_ROWS));
     }
-    words_about(about_of(OF_OLD_HEADER, 0, u64::from(header), 0..=old))
+    words_about(about_of(OF_OLD_HEADER, 0, header as u64, 0..=old))
 }
