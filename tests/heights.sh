@@ -58,7 +58,7 @@ findings() {
     grep -rlE '(\.|::)shell_units\b' crates | grep -vE '^crates/(circle|heads)/' | sed "s/^/rule 2: a shell height's number asked for in /"
     grep -rlE '(\.|::)shell_units\b' crates | xargs -r grep -lwE 'DipHeight|dip_height' | sed "s/^/rule 2: it is asked for and a dip height named in /"
     others | sed 's/^/rule 3: /'
-    grep -rnE '[A-Za-z0-9_)]\.level\b' crates | grep -vE ':[0-9]+: *(requires|ensures) ' | grep -vE '^crates/circle/src/walk\.rt:[0-9]+: *(let y = self\.level;|\} else if middle <= self\.level \{)$' | sed "s/^/rule 3: a walk's level read in /"
+    grep -rnE '[A-Za-z0-9_)]\.level\b' crates | grep -vE ':[0-9]+: *(requires|ensures) ' | grep -vE '^crates/circle/src/walk\.rt:[0-9]+: *(let y = self\.walk\.level;|\} else if middle <= self\.walk\.level \{|ghost stands: \{ walk ≡ walk_at d walk\.level \},)$' | sed "s/^/rule 3: a walk's level read in /"
     grep -rnE '\b(DipHeight|ShellHeight|dip_height|shell_height) +as\b|\b(type|pub use)\b.*\b(DipHeight|ShellHeight|dip_height|shell_height)\b' crates | sed 's/^/rule 4: /'
 }
 

@@ -32,7 +32,7 @@ fn is_sound(dh: u32, step: u32, rows: &[u32]) -> bool
     rows.len() == Schedule { dh, step }.rows() && never_falls(rows)
 }
 
-// The rows, and where they stand.
+// The rows, and where they stand. No type for `said` too: the rows that are said need not be sound, only all there.
 #[derive(Clone, Copy)]
 pub struct SoundTable<'a> {
     pub schedule: Schedule,

@@ -42,7 +42,8 @@ pub fn record_of(x: Section, i: usize) -> Record
     }
 }
 
-// The test of a number that stands at byte k of a record, which is its place.
+// The test of a number that stands at byte k of a record, which is its place. That places have 32 bits is a clause: with it in `Record`, `record_of` would ask
+// more of a section and a row than it does.
 pub fn number_tested(
     x: Record,
     k: usize,

@@ -31,7 +31,7 @@ pub struct Refusal {
     pub about: About,
 }
 
-// What a test of a number without a sign is about.
+// What a test of a number without a sign is about: of any that `About` can tell, for which 32 bits would be too few.
 pub fn about_of(sentence: u32, item: u32, value: u64, limits: RangeInclusive<u32>) -> About
     requires { value < 2 ^ 63 }
     ensures { result ≡ about sentence item value limits.start limits.end }
@@ -83,7 +83,7 @@ pub fn limited(
     )
 }
 
-// The first verdict where that refuses, else the second: of two that are in hand.
+// The first verdict where that refuses, else the second: of two that are in hand. The tests of this library are joined by `?` and ask for none.
 pub fn first_refusal(first: Result<(), Refusal>, second: Result<(), Refusal>) -> Result<(), Refusal>
     ensures { result ≡ first_refusal first second }
 {

@@ -17,7 +17,8 @@ fn keeps_up(net: &[i64], i: usize) -> bool
     i == 0 || net[i - 1] <= net[i]
 }
 
-// Refusal 9 of row i, whose height is told.
+// Refusal 9 of row i, whose height is told. The rows and where they stand are handed on side by side: in a struct the rows would be a borrow, of which a
+// clause knows two moments.
 fn fall_tested(net: &[i64], schedule: Schedule, i: usize) -> Result<(), Refusal>
     requires { (i < length net.now) × (i < 2 ^ 32) × (i < row_count schedule.dh schedule.step) }
     ensures { result ≡ verdict (fall_test (net_of net.now) (row_height schedule.dh schedule.step) i) }

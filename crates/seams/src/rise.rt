@@ -40,6 +40,7 @@ impl Weld {
     }
 }
 
+// Of any DH from the smallest on: a `Diameter` would ask for less than the largest, too.
 #[tactic(auto, using(crate::proofs::RiseLaws::first_term_at_most, crate::proofs::RiseLaws::second_term_at_most), unfolding(crate::specs::Rise::tape_rise))]
 pub fn tape_rise(seam: Seam, dh: u32) -> u64
     requires { SeamFits seam × (smallest ≤ dh) }

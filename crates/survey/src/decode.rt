@@ -32,7 +32,8 @@ pub const LARGEST_FILE: usize = tests::LARGEST_FILE;
 // The length in bytes of the header that old files have: what `decode_48` reads.
 pub const OLD_HEADER: usize = layout::HEADER_END;
 
-// All that a table is made of, of a file that is not refused. Behind the deadwood items stand items that take nothing.
+// All that a table is made of, of a file that is not refused. Nothing is allocated, so the deadwood has room for the most items, with a count beside it; both
+// are seen here alone. Behind the items stand items that take nothing.
 #[derive(Clone, Copy)]
 pub struct Survey {
     pub tank: Tank,

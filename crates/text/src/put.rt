@@ -29,7 +29,7 @@ impl Writer<'_> {
         }
     }
 
-    // The first n bytes of s; all of it where it has no more.
+    // The first n bytes of s; all of it where it has no more. For a caller who has a count; this library lends slices.
     #[tactic(auto, using(std::proofs::lemmas::List::take_min))]
     pub fn first(&mut self, s: &[u8], n: usize)
         ensures { Wrote (take n s.now) self.old self.new }
