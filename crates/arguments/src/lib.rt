@@ -113,7 +113,7 @@ pub fn say<F: FnOnce(&mut [u8], &mut [u8]) -> Said>(
 ) -> Moved
     requires callable { F.IsAlwaysCallable text }
     requires within { (o e : _) (said : Said) (p f : _) → F.post text o e said p f → (said.out ≤ length p.now) × (said.err ≤ length f.now) }
-    ensures { (o e : _) × (said : Said) × (p f : _) × F.post text o e said p f × (p.now ≡ out.new) × Written said.out result }
+    ensures { (o e : _) × (said : Said) × (p f : _) × F.post text o e said p f × (o.now ≡ out.old) × (p.now ≡ out.new) × Written said.out result }
 {
     let mut err = [0u8; ERR_SIZE];
     let said = text(out, &mut err);
