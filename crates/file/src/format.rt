@@ -1,6 +1,6 @@
 // The formats of a survey file: how long its header and its records are. The words of document 01 stand at the same places in all of
 // them, and those that a later request added behind them.
-ghost use Rattle.std.specs.Prelude.{◌≡◌, ◌≤◌};
+ghost use Rattle.std.specs.Prelude.{◌≡◌, ◌≤◌, ℕ};
 ghost use Rattle.file.specs.Layout.{header_end, has_seams};
 ghost use Rattle.file.specs.Limits.{largest_file};
 ghost use Rattle.file.specs.Format.{format_of, format48, today};
@@ -30,6 +30,13 @@ impl Model for Format {
     ghost invariant = { λ f. Readable (lengths f) };
 
     ghost inverse = { λ f. record { header = f.header; course = f.course; deadwood = f.deadwood; seam = f.seam } };
+}
+
+// Whether a header of so many bytes has the words of the seams, however long the records are and whether or not such a format can be read.
+pub fn header_has_seams(header: usize) -> bool
+    ensures { (course deadwood seam : ℕ) → result ≡ has_seams (record { header = header; course = course; deadwood = deadwood; seam = seam }) }
+{
+    layout::SEAM_HEADER_END <= header
 }
 
 impl Format {
@@ -63,6 +70,6 @@ impl Format {
     pub fn has_seams(self) -> bool
         ensures { result ≡ has_seams self }
     {
-        layout::SEAM_HEADER_END <= self.header
+        header_has_seams(self.header)
     }
 }

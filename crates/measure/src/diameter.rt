@@ -1,7 +1,7 @@
 // An inner diameter, in u: one kind of measure with its own limits, 500.00 mm to 5,000.00 mm.
 ghost use Rattle.std.specs.Prelude.{◌≡◌};
 ghost use Rattle.measure.specs.Diameter.{DiameterLimits, measured, smallest, largest};
-ghost use Rattle.measure.specs.Quantity.{diameter_units};
+ghost use Rattle.measure.specs.Quantity.{diameter, diameter_units};
 
 use std::marker::Model;
 
@@ -41,6 +41,13 @@ impl Diameter {
         } else {
             None
         }
+    }
+
+    // The smallest diameter: one that is there whatever was measured.
+    pub fn smallest() -> Diameter
+        ensures { result ≡ diameter smallest }
+    {
+        Diameter(Diameter::SMALLEST)
     }
 
     // That it is within the limits is told too, for whoever goes on with the number.

@@ -14,8 +14,13 @@ use Rattle.file.specs.Layout.{kind_at, dh_at, l1_at, l2_at, l3_at, step_at}
 use Rattle.file.specs.Format.{today}
 use Rattle.records.specs.Item.{items_of}
 use Rattle.dimensions.specs.Dimensions.{d1, d2}
+use Rattle.deadwood.specs.declared.item.Deadwood.{Deadwood}
 use Rattle.survey.specs.declared.decode.Survey.{Survey}
 use Rattle.survey.specs.Tests.{file_tests}
+
+-- a survey of these parts, whatever file they are of
+abbrev pub survey_of_parts : Tank → (step : ℕ) → List Deadwood → Survey
+survey_of_parts tank step deadwood = record { tank = tank; step = step; deadwood = deadwood }
 
 -- a tank of these diameters, with the file's other sizes
 abbrev pub tank_of : List ℕ → (d1 d2 : ℕ) → Tank

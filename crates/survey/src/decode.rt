@@ -8,8 +8,8 @@ ghost use Rattle.file.specs.Section.{deadwood};
 ghost use Rattle.form.specs.PlacedLaws.{Placed};
 ghost use Rattle.records.specs.Item.{items_of};
 ghost use Rattle.tank.specs.TankLaws.{TankLimits};
-ghost use Rattle.survey.specs.Survey.{tank_of, survey_with, decoded_as, decoded};
-ghost use Rattle.survey.specs.SurveyLaws.{SurveyLimits};
+ghost use Rattle.survey.specs.Survey.{tank_of, survey_of_parts, survey_with, decoded_as, decoded};
+ghost use Rattle.survey.specs.SurveyLaws.{SurveyLimits, WithinLimits};
 ghost use Rattle.survey.specs.Held.{filled_up};
 
 use crate::judge::judged;
@@ -59,6 +59,22 @@ impl Model for Survey {
 }
 
 impl Survey {
+    // A survey of a tank, a step and deadwood items: for who has these and no file.
+    pub fn of(tank: Tank, step: u32, deadwood: &[Deadwood]) -> Survey
+        requires { SurveyLimits (survey_of_parts tank step deadwood.now) }
+        ensures { result ≡ survey_of_parts tank step deadwood.now }
+    {
+        let count = deadwood.len();
+        let mut items = [Deadwood::nothing(); MOST_ITEMS];
+        items[..count].copy_from_slice(deadwood);
+        Survey {
+            tank,
+            step,
+            items,
+            count,
+        }
+    }
+
     // The deadwood items.
     pub fn deadwood(&self) -> &[Deadwood]
         ensures { result.now ≡ self.now.deadwood }
@@ -118,16 +134,18 @@ fn decode_as(f: Format, s: &[u8]) -> Result<Survey, Refusal>
     Ok(survey_of(f, s, found))
 }
 
-// A file of any bytes, of any length.
+// A file of any bytes, of any length. That a survey is within its limits is told too, for whoever hands it on unread.
 pub fn decode(s: &[u8]) -> Result<Survey, Refusal>
-    ensures { result ≡ decoded s.now }
+    ensures value { result ≡ decoded s.now }
+    ensures within_limits { WithinLimits result }
 {
     decode_as(Format::today(), s)
 }
 
 // .. with a header of 48 bytes. A name of its own and no format handed in: above this room nobody names a file's bytes.
 pub fn decode_48(s: &[u8]) -> Result<Survey, Refusal>
-    ensures { result ≡ decoded_as format48 s.now }
+    ensures value { result ≡ decoded_as format48 s.now }
+    ensures within_limits { WithinLimits result }
 {
     decode_as(Format::header_of_48(), s)
 }

@@ -12,7 +12,7 @@ returns-then-header-old-clause-exactly c =
     let a = c.args in
     let is : c.in_words.result ≡ conversion_words a.header a.survey.now =
     rw (eq-eqb a.header format48.header c.if-header-old.true)
-    (c.in_words.ensures.value ∙ ap words_of (c.judged.ensures ∙ ap (λ file. verdict_on file most_rows) c.decode_48.ensures)) in
+    (c.in_words.ensures.value ∙ ap words_of (c.judged.ensures ∙ ap (λ file. verdict_on file most_rows) c.decode_48.ensures.value)) in
     rw is (conversion_words_law a.header a.survey.now)
 
 pub returns-clause-exactly : goal.returns-clause-exactly

@@ -8,5 +8,5 @@ use Rattle.capi.proofs.milechime_words.Goals as goal
 pub returns-clause-exactly : goal.returns-clause-exactly
 returns-clause-exactly c =
     let a = c.args in
-    let verdict = c.judged.ensures ∙ ap (λ file. verdict_on file a.table_length) c.decode.ensures in
+    let verdict = c.judged.ensures ∙ ap (λ file. verdict_on file a.table_length) c.decode.ensures.value in
     rw (c.in_words.ensures.value ∙ ap words_of verdict) (table_words a.survey.now a.table_length)

@@ -7,4 +7,4 @@ unfolding tabled no_rows
 returns c =
     let schedule = c.schedule_of-schedule.ensures in
     let filled = c.in_ok-filled.ensures in
-    rw (← c.in_ok-v.ensures, schedule.0, schedule.1, c.rows_in.ensures.0, filled.table_after, ← filled.value)
+    rw (← c.in_ok-v.ensures.value, schedule.0, schedule.1, c.rows_in.ensures.0, filled.table_after, ← filled.value)

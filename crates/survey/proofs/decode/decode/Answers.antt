@@ -3,6 +3,6 @@ use Rattle.std.proofs.Common.{◌∙◌, ap}
 use Rattle.survey.specs.Survey.{decoded_as, decoded}
 use Rattle.survey.proofs.decode.decode.Goals as goal
 
-pub returns : goal.returns
+pub returns-clause-value : goal.returns-clause-value
 unfolding decoded
-returns c = c.decode_as.ensures ∙ ap (λ f. decoded_as f c.args.s.now) c.today.ensures
+returns-clause-value c = c.decode_as.ensures ∙ ap (λ f. decoded_as f c.args.s.now) c.today.ensures
