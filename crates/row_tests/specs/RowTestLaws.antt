@@ -6,6 +6,8 @@ use Rattle.std.specs.Int.Signed.{le_z, non_neg}
 use Rattle.laws.specs.Fill.{rows_of}
 use Rattle.laws.specs.FillLaws.{length_rows_of, rows_of_agree}
 use Rattle.laws.specs.BoolLaws.{true_not_false}
+use Rattle.measure.specs.Quantity.{diameter_units}
+use Rattle.schedule.specs.Rows.{row_count, row_height}
 use Rattle.refusal.specs.declared.Refusal.{Refusal}
 use Rattle.refusal.specs.Test.{about, verdict, items, Verdict}
 use Rattle.refusal.specs.TestLaws.{passed_pick, passed_items, passed_all, items_agree}
@@ -14,7 +16,7 @@ use Rattle.sentences.specs.Sentences.{of_falling_row, told}
 use Rattle.sentences.specs.KnownLaws.{Known, KnownIn}
 use Rattle.sentences.proofs.KnownLaws.{verdict_known}
 use Rattle.survey.specs.declared.decode.Survey.{Survey}
-use Rattle.rows.specs.Rows.{rows_in, height_of, net_row}
+use Rattle.rows.specs.Rows.{rows_in, height_of, net_row, cell_of}
 use Rattle.rows.specs.RowLaws.{net_of, cell_in, front_row, row_0_not_below_zero}
 use Rattle.row_tests.specs.Tests.{keeps_up, fall_test, row_tests, table_tests}
 use Rattle.row_tests.specs.Left.{left_by}
@@ -63,6 +65,14 @@ module _ (f : ℕ → ℤ) (n : ℕ) where
 
   pub memory_left : (v : Verdict) (table : List ℕ) → left_by v (cell_in (rows_of f n)) (length (rows_of f n)) table ≡ left_by v (λ i. nat_abs (f i)) n table
   memory_left v table = rw (length_rows_of f n) (rw (append-nil (rows_of f n)) at (front_left v f n [] table))
+
+-- a survey's net rows at the front of a memory, by a schedule that is the survey's, are tested and left as the survey's
+module _ (v : Survey) {net : List ℤ} (rest : List ℤ) {dh step : ℕ} (held : net ≡ rows_of (net_row v) (rows_in v) ++ rest) (top : dh ≡ diameter_units v.tank.dh) (apart : step ≡ v.step) where
+  pub held_tests : (cells : ℕ) → verdict (row_tests (net_of net) (row_height dh step) (row_count dh step) cells) ≡ verdict (table_tests v cells)
+  held_tests cells = rw (held, top, apart) (ap verdict (front_tests (net_row v) (height_of v) (rows_in v) rest cells))
+
+  pub held_left : (w : Verdict) (table : List ℕ) → left_by w (cell_in net) (row_count dh step) table ≡ left_by w (cell_of v) (rows_in v) table
+  held_left w table = rw (held, top, apart) (front_left w (net_row v) (rows_in v) rest table)
 
 -- every refusal of rows has a number in use and a sentence
 pub rows_known : (v : Survey) (cells : ℕ) → KnownIn (verdict (table_tests v cells))

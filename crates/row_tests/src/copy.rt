@@ -22,13 +22,14 @@ fn copy_rows(net: &[i64], table: &mut [u32])
     }
 }
 
-// Refusals 8 and 9 on rows in memory; a table that is refused is not touched.
+// Refusals 8 and 9 on the rows at the front of `net`; a table that is refused is not touched.
 pub fn test_and_copy(net: &[i64], schedule: Schedule, table: &mut [u32]) -> Result<(), Refusal>
-    requires { (length net.now < 2 ^ 32) × (length net.now ≡ row_count schedule.dh schedule.step) × ((i : ℕ) → i < length net.now → cell_in net.now i < 2 ^ 32) }
-    ensures value { result ≡ verdict (row_tests (net_of net.now) (row_height schedule.dh schedule.step) (length net.now) (length table.old)) }
-    ensures table_after { table.new ≡ left_by result (cell_in net.now) (length net.now) table.old }
+    requires { (row_count schedule.dh schedule.step ≤ length net.now) × (row_count schedule.dh schedule.step < 2 ^ 32) × ((i : ℕ) → i < row_count schedule.dh schedule.step → cell_in net.now i < 2 ^ 32) }
+    ensures value { result ≡ verdict (row_tests (net_of net.now) (row_height schedule.dh schedule.step) (row_count schedule.dh schedule.step) (length table.old)) }
+    ensures table_after { table.new ≡ left_by result (cell_in net.now) (row_count schedule.dh schedule.step) table.old }
 {
+    let rows = schedule.rows();
     rows_tested(net, schedule, table.len())?;
-    copy_rows(net, table);
+    copy_rows(&net[..rows], table);
     Ok(())
 }

@@ -28,16 +28,17 @@ fn fall_tested(net: &[i64], schedule: Schedule, i: usize) -> Result<(), Refusal>
     one_test(9, i as u32, keeps_up(net, i), about)
 }
 
-// Refusals 8 and 9, for a lent table of so many cells. None need be tested for being below zero: at height 0 nothing
+// Refusals 8 and 9 of the rows at the front of `net`, for a lent table of so many cells. None need be tested for being below zero: at height 0 nothing
 // is deducted, and a later row would have fallen.
 #[tactic(auto, using(crate::proofs::Room::room_short, refusal::specs::TestLaws::passed_next), unfolding(crate::specs::Tests::row_tests, refusal::specs::Test::items))]
 pub fn rows_tested(net: &[i64], schedule: Schedule, cells: usize) -> Result<(), Refusal>
-    requires { (length net.now < 2 ^ 32) × (length net.now ≡ row_count schedule.dh schedule.step) }
-    ensures { result ≡ verdict (row_tests (net_of net.now) (row_height schedule.dh schedule.step) (length net.now) cells) }
+    requires { (row_count schedule.dh schedule.step ≤ length net.now) × (row_count schedule.dh schedule.step < 2 ^ 32) }
+    ensures { result ≡ verdict (row_tests (net_of net.now) (row_height schedule.dh schedule.step) (row_count schedule.dh schedule.step) cells) }
 {
     let about = about_of(OF_LENT_TABLE, 0, 0, 0..=0);
-    one_test(8, 0, net.len() <= cells, about)?;
-    for i in 0..net.len() {
+    let rows = schedule.rows();
+    one_test(8, 0, rows <= cells, about)?;
+    for i in 0..rows {
         fall_tested(net, schedule, i)?;
     }
     Ok(())

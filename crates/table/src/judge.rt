@@ -6,18 +6,18 @@ ghost use Rattle.table.specs.Answer.{verdict_on};
 
 use refusal::Refusal;
 use row_tests::tests::rows_tested;
-use rows::{net_rows, rows_in, schedule_of};
+use rows::{net_rows, schedule_of};
 use schedule::MOST_ROWS;
 use survey::decode::Survey;
 
+#[tactic(auto, using(schedule::specs::RowsLaws::few_rows))]
 fn rows_judged(v: Survey, cells: usize) -> Result<(), Refusal>
     ensures { result ≡ verdict (table_tests v cells) }
 {
-    let rows = rows_in(v);
-    let mut room = [0i64; MOST_ROWS];
-    let net = &mut room[..rows];
-    net_rows(v, net);
-    rows_tested(net, schedule_of(v), cells)
+    let schedule = schedule_of(v);
+    let mut net = [0i64; MOST_ROWS];
+    net_rows(v, &mut net);
+    rows_tested(&net, schedule, cells)
 }
 
 // Refusals 1 to 9 and 14, for a lent table of so many cells.

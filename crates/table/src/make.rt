@@ -43,15 +43,15 @@ impl From<Refusal> for NumberedRefusal {
 
 // The rows of a survey that is not refused into the table: worked out apart, tested, and copied last.
 // `judge` works them out in the same three lines: one function for both would lend the rows to what comes last, which writes here and does not there.
+#[tactic(auto, using(schedule::specs::RowsLaws::few_rows))]
 fn fill(v: Survey, table: &mut [u32]) -> Result<(), Refusal>
     ensures value { result ≡ verdict (table_tests v (length table.old)) }
     ensures table_after { table.new ≡ left_by result (cell_of v) (rows_in v) table.old }
 {
-    let rows = rows_in(v);
-    let mut room = [0i64; MOST_ROWS];
-    let net = &mut room[..rows];
-    net_rows(v, net);
-    test_and_copy(net, schedule_of(v), table)
+    let schedule = schedule_of(v);
+    let mut net = [0i64; MOST_ROWS];
+    net_rows(v, &mut net);
+    test_and_copy(&net, schedule, table)
 }
 
 // The verdict on a decoded file and its rows, with what it is about, and the rows in the table where nothing is refused.

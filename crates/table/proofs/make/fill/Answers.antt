@@ -1,15 +1,16 @@
 -- `table::make::fill` meets its contract: the rows in memory are the survey's net rows, so the verdict on them and the cells made of them are the definition's. Assumes nothing.
-use Rattle.std.proofs.Common.{length}
-use Rattle.row_tests.specs.RowTestLaws.{memory_tests, memory_left}
-use Rattle.rows.specs.Rows.{rows_in, height_of, net_row}
+use Rattle.std.proofs.Common.{◌∙◌, length}
+use Rattle.row_tests.specs.RowTestLaws.{held_tests, held_left}
 use Rattle.table.proofs.make.fill.Goals as goal
 
 pub returns-clause-value : goal.returns-clause-value
 returns-clause-value c =
-    let v = c.args.v in
-    rw (← memory_tests (net_row v) (rows_in v) (height_of v) (length c.args.table.now), ← c.net_rows.ensures.rows, ← c.schedule_of.ensures.0, ← c.schedule_of.ensures.1) c.test_and_copy.ensures.value
+    let a = c.args in
+    let schedule = c.schedule_of-schedule.ensures in
+    c.test_and_copy.ensures.value ∙ held_tests a.v _ c.net_rows.ensures.rows schedule.0 schedule.1 (length a.table.now)
 
 pub returns-clause-table_after : goal.returns-clause-table_after
 returns-clause-table_after c =
-    let v = c.args.v in
-    rw (← memory_left (net_row v) (rows_in v) c.test_and_copy.result c.args.table.now, ← c.net_rows.ensures.rows) c.test_and_copy.ensures.table_after
+    let a = c.args in
+    let schedule = c.schedule_of-schedule.ensures in
+    c.test_and_copy.ensures.table_after ∙ held_left a.v _ c.net_rows.ensures.rows schedule.0 schedule.1 c.test_and_copy.result a.table.now
