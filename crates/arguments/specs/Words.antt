@@ -6,10 +6,10 @@ use Rattle.arguments.specs.declared.Own.{Own}
 -- argument 0 is the program's name, and 1 and 2 are `-f FILE` where a file is named
 pub record Begins (own : Own) : Type 0 where
   pub named : IfSome own.file (λ i. i ≡ 2)
-  pub at : own.words.start ≡ pick (is_some own.file) 3 1
-  pub there : pick (is_some own.file) 3 0 ≤ own.words.end
+  pub at : own.first ≡ pick (is_some own.file) 3 1
+  pub there : pick (is_some own.file) 3 0 ≤ own.end
   -- which follows, and is said so that a sum with it is seen to fit
-  pub low : own.words.start ≤ 3
+  pub low : own.first ≤ 3
 
 -- a program knows no word that is longer
 abbrev pub longest_word : ℕ

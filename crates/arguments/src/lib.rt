@@ -18,11 +18,21 @@ use survey::decode::LARGEST_FILE;
 // Room to read a survey: one byte more than one may have tells that it is too long.
 pub const SURVEY_ROOM: usize = LARGEST_FILE + 1;
 
-// Which arguments are a program's own words, behind its name and `-f FILE`; and the argument that names the survey's file, if one does.
-#[derive(Drop)]
+// Which arguments are a program's own words, from `first` up to `end`, behind its name and `-f FILE`; and the argument that names the survey's file, if
+// one does. Two ends and no `Range`, which is no `Copy`.
+#[derive(Clone, Copy)]
 pub struct Own {
     pub file: Option<usize>,
-    pub words: Range<usize>,
+    pub first: usize,
+    pub end: usize,
+}
+
+impl Own {
+    pub fn words(self) -> Range<usize>
+        ensures { (result.start ≡ self.first) × (result.end ≡ self.end) }
+    {
+        self.first..self.end
+    }
 }
 
 // Whether argument i is this word. One that has no room here is not.
@@ -58,21 +68,23 @@ pub fn own_words(rt: &HostRuntime) -> Own
     if 3 <= end && is_word(rt, 1, b"-f") {
         return Own {
             file: Some(2),
-            words: 3..end,
+            first: 3,
+            end,
         };
     }
     Own {
         file: None,
-        words: 1..end,
+        first: 1,
+        end,
     }
 }
 
 // Tells the program's use in place of all else: on standard output where `--help` is all that is asked, on standard error where the words
 // are not right. Answers whether it did, which is before anything is read.
-pub fn tells_use(rt: &HostRuntime, own: &Own, right: bool, text: &[u8]) -> bool
+pub fn tells_use(rt: &HostRuntime, own: Own, right: bool, text: &[u8]) -> bool
     ensures { (result || right) ≡ true }
 {
-    if own.words.end == 2 && is_word(rt, 1, b"--help") {
+    if own.end == 2 && is_word(rt, 1, b"--help") {
         write_whole(rt, &mut rt.stdout(), text);
         return true;
     }
@@ -84,7 +96,7 @@ pub fn tells_use(rt: &HostRuntime, own: &Own, right: bool, text: &[u8]) -> bool
 }
 
 // The survey, whole, from the file that is named or from standard input, as far as buf has room for it.
-pub fn read_survey(rt: &HostRuntime, own: &Own, buf: &mut [u8]) -> Moved
+pub fn read_survey(rt: &HostRuntime, own: Own, buf: &mut [u8]) -> Moved
     ensures prefix_len { IsPrefixLen result.count buf.new }
     ensures buf_len_unchanged { length buf.new ≡ length buf.old }
 {
@@ -96,7 +108,7 @@ pub fn read_survey(rt: &HostRuntime, own: &Own, buf: &mut [u8]) -> Moved
 
 // What is said, to standard output and then to standard error. Answers what came of the first.
 // Two texts, since each goes to a stream of its own.
-fn write_said(rt: &HostRuntime, out: &[u8], err: &[u8]) -> Moved
+pub fn write_said(rt: &HostRuntime, out: &[u8], err: &[u8]) -> Moved
     ensures { Written (length out.now) result }
 {
     let put = write_output(rt, out);

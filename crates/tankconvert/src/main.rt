@@ -7,16 +7,16 @@ use rewrite::rewritten::MOST_BYTES;
 
 fn main(rt: HostRuntime) {
     let own = own_words(&rt);
-    let right = own.words.len() == 1 && is_word(&rt, own.words.start, b"48");
+    let right = own.words().len() == 1 && is_word(&rt, own.first, b"48");
     let text = b"use: tankconvert [-f FILE] FROM\n\
         Writes an old survey file, which is read from FILE or from standard input, in today's format, with a header of 56 bytes.\n\
         FROM is the length of the old file's header in bytes, and must be 48.\n\
         Convert a file once: one that has seams already may pass for an old one, and would lose them.\n";
-    if tells_use(&rt, &own, right, text) {
+    if tells_use(&rt, own, right, text) {
         return;
     }
     let mut file = [0u8; SURVEY_ROOM];
-    let got = read_survey(&rt, &own, &mut file);
+    let got = read_survey(&rt, own, &mut file);
     if got.end.is_ok() {
         let survey = &file[..got.count];
         let mut out = [0u8; MOST_BYTES];

@@ -10,24 +10,24 @@ use survey_lookup::table_of;
 
 fn main(rt: HostRuntime) {
     let own = own_words(&rt);
-    let first = own.words.start + 1;
-    let command = asked(&rt, own.words.start, first..own.words.end);
+    let first = own.first + 1;
+    let command = asked(&rt, own.first, first..own.end);
     let text =
         b"use: tanklookup [-f FILE] litres MM ..                the litres at each dip height\n\
         \x20    tanklookup [-f FILE] height LITRES ..            the lowest dip height at which the tank holds each volume\n\
         \x20    tanklookup [-f FILE] delivered BEFORE AFTER      the litres at dip height AFTER less those at BEFORE, with the sign\n\
         The survey is read from FILE or from standard input. MM, LITRES, BEFORE and AFTER are figures such as 1250 or 1250.75.\n";
-    if tells_use(&rt, &own, command.is_some(), text) {
+    if tells_use(&rt, own, command.is_some(), text) {
         return;
     }
     let mut file = [0u8; SURVEY_ROOM];
-    let got = read_survey(&rt, &own, &mut file);
+    let got = read_survey(&rt, own, &mut file);
     if got.end.is_ok() {
         tell_each(
             &rt,
             command.unwrap(),
             table_of(&file[..got.count]),
-            first..own.words.end,
+            first..own.end,
         );
     }
 }

@@ -9,11 +9,11 @@ fn main(rt: HostRuntime) {
     let own = own_words(&rt);
     let text = b"use: tanktable [-f FILE]\n\
         Prints the capacity table of a survey, which is read from FILE or from standard input: dip heights in mm, and litres.\n";
-    if tells_use(&rt, &own, own.words.is_empty(), text) {
+    if tells_use(&rt, own, own.words().is_empty(), text) {
         return;
     }
     let mut file = [0u8; SURVEY_ROOM];
-    let got = read_survey(&rt, &own, &mut file);
+    let got = read_survey(&rt, own, &mut file);
     if got.end.is_ok() {
         let survey = &file[..got.count];
         let mut out = [0u8; OUT_SIZE];
