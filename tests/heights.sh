@@ -21,11 +21,21 @@ near() {
     done
 }
 
-# crates that can make a dip height of a number: by a call of its type, by a conversion that names no type, or by a crate that they list.
-# `measure`, which has the type and its conversion, makes none.
+# What makes a dip height of a number in the text of a crate, its lines joined: a call of the type; a conversion that names no type, goes by a type
+# parameter, by the trait under whatever name, or by an error's `?`; the type handed to another as a parameter, or under another name. Conversions to the
+# types that are named here are no such thing.
+conversion='\bDipHeight[ >]*::|into\b|\b(Try)?(Into|From)\b|<\s*_\s*>\s*::|>\s*::\s*(try_)?from\b'
+conversion+='|\b(?!(Volume|HeadKind|[iu](8|16|32|64|128|size))\s*::)\w+\s*::\s*(try_)?from\b'
+conversion+='|[\w)\]]\s*\?|[<,]\s*([a-z_]+::)*DipHeight\s*[,>]|\btype\b[^;]*\bDipHeight\b'
+# the lines that open the conversions which there are, of `measure` and `heads`
+opened='^impl (From<u32> for (DipHeight|Volume)|TryFrom<u32> for HeadKind) \{$'
+
+# crates that can make a dip height of a number, or list one that can
 makers() {
-    local crate found before=none
-    found=" $(grep -rlE '\bDipHeight[ >]*::|\b(try_)?into\b|\b(Try)?Into\b|\b(Try)?From::|\bFrom<u32>|: *TryFrom<|<_>::|\bResult<.*\bDipHeight>' crates --exclude-dir=measure | cut -d/ -f2 | sort -u | paste -sd' ') "
+    local crate found=' ' before=none
+    for crate in $(crates); do
+        cat crates/"$crate"/src/*.rt | grep -vE "$opened" | tr '\n' ' ' | grep -qP "$conversion" && found="$found$crate "
+    done
     while [ "$found" != "$before" ]; do
         before=$found
         for crate in $(crates); do
@@ -96,6 +106,15 @@ broken "rule 1" add crates/tank/src/filling.rt 'fn back(n: u32) -> DipHeight { T
 broken "rule 1" add crates/tank/src/filling.rt 'fn back<T: TryFrom<u32>>(n: u32) -> Option<T> { T::try_from(n).ok() }'
 broken "rule 1" add crates/tank/src/filling.rt 'fn back<T: From<u32>>(n: u32) -> T { T::from(n) }'
 broken "rule 1" add crates/tank/src/filling.rt 'fn back(n: u32) -> Result<u32, DipHeight> { Err(n)? }'
+broken "rule 1" add crates/tank/src/filling.rt 'fn back<X, T: From<X>>(n: X) -> T { T::from(n) }'
+broken "rule 1" add crates/tank/src/filling.rt 'fn back<T: Made>(n: u32) -> T { T::from(n) }'
+broken "rule 1" add crates/tank/src/filling.rt 'use std::convert::From as Made; fn back(n: u32) -> DipHeight { Made::from(n) }'
+broken "rule 1" add crates/tank/src/filling.rt 'impl Made for DipHeight { fn made(n: u32) -> DipHeight { Self::from(n) } }'
+broken "rule 1" add crates/tank/src/filling.rt $'fn back(n: u32) -> Result<\n    u32,\n    DipHeight,\n> {\n    Err(n)?\n}'
+broken "rule 1" add crates/tank/src/filling.rt 'fn back(n: u32) -> Told<u32, DipHeight> { told(n) }'
+broken "rule 1" add crates/tank/src/filling.rt $'fn back(n: u32) -> DipHeight { DipHeight\n    ::from(n) }'
+broken "rule 1" add crates/measure/src/volume.rt 'pub fn height_of(n: u32) -> DipHeight { DipHeight::from(n) }'
+broken "rule 1" add crates/arith/src/nearest.rt 'pub fn made<A, B: From<A>>(a: A) -> B { B::from(a) }'
 broken "rule 1" sed -i 's/^tank: /&schedule /' crates.txt
 broken "rule 1" sed -i 's/^lookup: /&correction /' crates.txt
 broken "rule 2" add crates/tank/src/filling.rt 'fn number(h: ShellHeight) -> u64 { h.shell_units() }'

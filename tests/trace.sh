@@ -4,14 +4,15 @@
 # Says what it looked at; a page that leaves each of these out is seen to be found.
 . "$(dirname "$0")/failures.sh"
 
-# CRATE NAME of each function that another crate can call: in lib.rt, or in a file that lib.rt declares with 'pub mod'
+# CRATE NAME of each function that another crate can call, those of a trait and of its impls too: in lib.rt, or in a file that lib.rt declares with
+# 'pub mod'
 public_functions() {
     local crate file module name
     for file in crates/*/src/*.rt; do
         crate=$(basename "$(dirname "$(dirname "$file")")")
         module=$(basename "$file" .rt)
         [ "$module" = lib ] || grep -q "^pub mod $module;" "crates/$crate/src/lib.rt" 2>/dev/null || continue
-        for name in $(sed -nE 's/^ *pub (extern "C" )?fn ([a-z_0-9]+).*/\2/p' "$file"); do
+        for name in $(sed -nE 's/^ *pub (extern "C" )?fn ([a-z_0-9]+).*/\2/p; /^pub trait |^impl.* for /,/^\}/ s/^ *fn ([a-z_0-9]+).*/\1/p' "$file"); do
             echo "$crate $name"
         done
     done
@@ -35,6 +36,8 @@ found=$(files_missing "$page")
 
 # the rules can be broken
 sample=$(mktemp)
+grep -v 'put_line' "$page" >"$sample"
+functions_missing "$sample" | grep -qx 'said::put_line' || fail "a function of a trait without a row is not found"
 grep -v 'nearest_of_product' "$page" >"$sample"
 functions_missing "$sample" | grep -qx 'arith::nearest_of_product' || fail "a function without a row is not found"
 sed 's/halves_down/halves/g' "$page" >"$sample"
