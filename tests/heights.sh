@@ -10,8 +10,8 @@
 . "$(dirname "$0")/failures.sh"
 
 # The functions below look at the folder that they stand in: crates.txt, and the sources without their comments.
-listed() { sed -nE "s/^$1( staticlib)?: *//p" crates.txt; }
-crates() { sed -nE 's/^([a-z_]+)( staticlib)?:.*/\1/p' crates.txt; }
+listed() { sed -nE "s/^$1( [^:]*)?: *//p" crates.txt; }
+crates() { sed -nE 's/^([a-z0-9_]+)( [^:]*)?:.*/\1/p' crates.txt; }
 
 # crates with code that can name a shell height
 near() {
@@ -22,11 +22,11 @@ near() {
 }
 
 # What makes a dip height of a number in the text of a crate, its lines joined: a call of the type; a conversion that names no type, goes by a type
-# parameter, by the trait under whatever name, or by an error's `?`; the type handed to another as a parameter, or under another name. Conversions to the
+# parameter, by the trait under whatever name, or by an error's `?` and what stands behind that; the type handed to another as a parameter, or under another name. Conversions to the
 # types that are named here are no such thing.
 conversion='\bDipHeight[ >]*::|into\b|\b(Try)?(Into|From)\b|<\s*_\s*>\s*::|>\s*::\s*(try_)?from\b'
 conversion+='|\b(?!(Volume|HeadKind|[iu](8|16|32|64|128|size))\s*::)\w+\s*::\s*(try_)?from\b'
-conversion+='|[\w)\]]\s*\?|[<,]\s*([a-z_]+::)*DipHeight\s*[,>]|\btype\b[^;]*\bDipHeight\b'
+conversion+='|FromResidual\b|from_residual\b|[\w)\]}]\s*\?|[<,]\s*([a-z_]+::)*DipHeight\s*[,>]|\btype\b[^;]*\bDipHeight\b'
 # the lines that open the conversions which there are, of `measure` and `heads`
 opened='^impl (From<u32> for (DipHeight|Volume)|TryFrom<u32> for HeadKind) \{$'
 
@@ -34,7 +34,7 @@ opened='^impl (From<u32> for (DipHeight|Volume)|TryFrom<u32> for HeadKind) \{$'
 makers() {
     local crate found=' ' before=none
     for crate in $(crates); do
-        cat crates/"$crate"/src/*.rt | grep -vE "$opened" | tr '\n' ' ' | grep -qP "$conversion" && found="$found$crate "
+        find crates/"$crate"/src -name '*.rt' -exec cat {} + | grep -vE "$opened" | tr '\n' ' ' | grep -qP "$conversion" && found="$found$crate "
     done
     while [ "$found" != "$before" ]; do
         before=$found
@@ -94,8 +94,16 @@ broken() {
     "$@"
     [[ $(findings) = *"$rule"* ]] || fail "not found as a breach of $rule: $*"
 }
-# Adds a line to a file.
-add() { echo "$2" >>"$1"; }
+# Adds a line to a file, which may be new.
+add() {
+    mkdir -p "$(dirname "$1")"
+    echo "$2" >>"$1"
+}
+# Adds a crate that makes dip heights, by its line's beginning, to those that `tank` lists.
+listed_by_tank() {
+    add "crates/${1%% *}/src/lib.rt" 'pub fn height(n: u32) -> DipHeight { DipHeight::from(n) }'
+    sed -i "s/^tank: /$1: measure\n&${1%% *} /" crates.txt
+}
 
 broken "rule 1" add crates/tank/src/filling.rt 'fn back(n: u32) -> DipHeight { DipHeight::from(n) }'
 broken "rule 1" add crates/tank/src/filling.rt 'fn back(n: u32) -> DipHeight { n.into() }'
@@ -113,6 +121,12 @@ broken "rule 1" add crates/tank/src/filling.rt 'impl Made for DipHeight { fn mad
 broken "rule 1" add crates/tank/src/filling.rt $'fn back(n: u32) -> Result<\n    u32,\n    DipHeight,\n> {\n    Err(n)?\n}'
 broken "rule 1" add crates/tank/src/filling.rt 'fn back(n: u32) -> Told<u32, DipHeight> { told(n) }'
 broken "rule 1" add crates/tank/src/filling.rt $'fn back(n: u32) -> DipHeight { DipHeight\n    ::from(n) }'
+broken "rule 1" add crates/tank/src/filling.rt 'fn back(n: u32) -> DipHeight { let f = |m: u32| { let x: u32 = match m { k => Err(k) }?; Ok(x) }; f(n).unwrap_err() }'
+broken "rule 1" add crates/tank/src/filling.rt 'fn back(n: u32) -> Result<u32, (DipHeight)> { if n == 0 { Ok(n) } else { Err(n) }? }'
+broken "rule 1" add crates/tank/src/filling.rt 'fn back(n: u32) -> DipHeight { Result::<u32, _>::from_residual(Err(n)).unwrap_err() }'
+broken "rule 1" add crates/tank/src/filling/back.rt 'pub fn back(n: u32) -> DipHeight { DipHeight::from(n) }'
+broken "rule 1" listed_by_tank made2
+broken "rule 1" listed_by_tank 'made may_wait=2'
 broken "rule 1" add crates/measure/src/volume.rt 'pub fn height_of(n: u32) -> DipHeight { DipHeight::from(n) }'
 broken "rule 1" add crates/arith/src/nearest.rt 'pub fn made<A, B: From<A>>(a: A) -> B { B::from(a) }'
 broken "rule 1" sed -i 's/^tank: /&schedule /' crates.txt
